@@ -1,0 +1,203 @@
+// The clock's counters: each is a small struct that goes in by value and comes back stepped.
+ghost use mathlib.Core.Path.{_≡_};
+ghost use Rattle.clock.specs.Ticks.{prescalerStepped, tonerStepped, dividerStepped, baseStepped, watchdogStepped, due, timerStepped, baseTicked, prescaledTick, countersTicked, timerCleared, watchdogCleared};
+
+// Where the system clock comes from.
+pub enum Source {
+    Xtal,
+    Rc,
+    Ext,
+}
+
+// p: divides the 256 kHz of RC or EXT by 8.
+pub struct Prescaler {
+    pub count: u8,
+}
+
+// q: the tone's phase.
+pub struct Toner {
+    pub count: u8,
+}
+
+// d: divides a base tick down to the rate.
+pub struct Divider {
+    pub count: u8,
+}
+
+// b: the time base, whose upper half drives IRQ.
+pub struct BaseCounter {
+    pub count: u8,
+}
+
+// w and the time-out flag.
+pub struct Watchdog {
+    pub count: u8,
+    pub flag: bool,
+}
+
+// What runs while the time base is on.
+pub struct Timer {
+    pub divider: Divider,
+    pub base: BaseCounter,
+    pub watchdog: Watchdog,
+}
+
+pub struct Counters {
+    pub prescaler: Prescaler,
+    pub toner: Toner,
+    pub timer: Timer,
+}
+
+impl Prescaler {
+    fn stepped(self) -> Prescaler
+        ensures { λ r. ⌜ r ≡ prescalerStepped self ⌝ }
+    {
+        Prescaler {
+            count: ((self.count as u16 + 1) % 8) as u8,
+        }
+    }
+}
+
+impl Toner {
+    fn stepped(self) -> Toner
+        ensures { λ r. ⌜ r ≡ tonerStepped self ⌝ }
+    {
+        Toner {
+            count: ((self.count as u16 + 1) % 16) as u8,
+        }
+    }
+}
+
+impl Divider {
+    fn stepped(self) -> Divider
+        ensures { λ r. ⌜ r ≡ dividerStepped self ⌝ }
+    {
+        Divider {
+            count: ((self.count as u16 + 1) % 128) as u8,
+        }
+    }
+
+    // Whether the rate's turn has come.
+    fn due(self, rate: u8) -> bool
+        ensures { λ r. ⌜ r ≡ due rate (self .count) ⌝ }
+    {
+        if 7 <= rate {
+            return true;
+        }
+        let period: u8 = 128 >> rate;
+        self.count % period == 0
+    }
+}
+
+impl BaseCounter {
+    fn stepped(self) -> BaseCounter
+        ensures { λ r. ⌜ r ≡ baseStepped self ⌝ }
+    {
+        BaseCounter {
+            count: ((self.count as u16 + 1) % 256) as u8,
+        }
+    }
+}
+
+impl Watchdog {
+    fn stepped(self) -> Watchdog
+        ensures { λ r. ⌜ r ≡ watchdogStepped self ⌝ }
+    {
+        let count = ((self.count as u16 + 1) % 4) as u8;
+        Watchdog {
+            count,
+            flag: count == 0 || self.flag,
+        }
+    }
+}
+
+impl Timer {
+    // A base tick while the time base is on.
+    fn stepped(self, rate: u8) -> Timer
+        ensures { λ r. ⌜ r ≡ timerStepped rate self ⌝ }
+    {
+        let divider = self.divider.stepped();
+        if divider.due(rate) {
+            let base = self.base.stepped();
+            if base.count == 0 {
+                let watchdog = self.watchdog.stepped();
+                return Timer {
+                    divider,
+                    base,
+                    watchdog,
+                };
+            }
+            return Timer {
+                divider,
+                base,
+                ..self
+            };
+        }
+        Timer { divider, ..self }
+    }
+
+    // CLR TIMER.
+    pub fn cleared(self) -> Timer
+        ensures { λ r. ⌜ r ≡ timerCleared self ⌝ }
+    {
+        Timer {
+            divider: Divider { count: 0 },
+            base: BaseCounter { count: 0 },
+            ..self
+        }
+    }
+
+    // CLR WDT.
+    pub fn all_cleared(self) -> Timer
+        ensures { λ r. ⌜ r ≡ watchdogCleared self ⌝ }
+    {
+        Timer {
+            watchdog: Watchdog {
+                count: 0,
+                flag: false,
+            },
+            ..self.cleared()
+        }
+    }
+}
+
+impl Counters {
+    // A base tick.
+    fn base_ticked(self, on: bool, rate: u8) -> Counters
+        ensures { λ r. ⌜ r ≡ baseTicked on rate self ⌝ }
+    {
+        let toner = self.toner.stepped();
+        if on {
+            let timer = self.timer.stepped(rate);
+            return Counters {
+                toner,
+                timer,
+                ..self
+            };
+        }
+        Counters { toner, ..self }
+    }
+
+    // A tick of RC or EXT: one in eight is a base tick.
+    fn prescaled_tick(self, on: bool, rate: u8) -> Counters
+        ensures { λ r. ⌜ r ≡ prescaledTick on rate self ⌝ }
+    {
+        let prescaler = self.prescaler.stepped();
+        let next = Counters { prescaler, ..self };
+        if prescaler.count == 0 {
+            return next.base_ticked(on, rate);
+        }
+        next
+    }
+
+    // A tick while the chip is running.
+    pub fn ticked(self, source: Source, on: bool, rate: u8) -> Counters
+        ensures { λ r. ⌜ r ≡ countersTicked source on rate self ⌝ }
+    {
+        match source {
+            Source::Xtal => self.base_ticked(on, rate),
+            Source::Rc => self.prescaled_tick(on, rate),
+            Source::Ext => self.prescaled_tick(on, rate),
+        }
+    }
+}

@@ -1,0 +1,3 @@
+pub mod CommandsLaws
+pub mod Determined
+pub mod TableLaws

@@ -1,0 +1,66 @@
+-- 01 "Commands": what each nine-bit code means. Assumes nothing.
+use Prim.Native.Nat.{ℕ, zero, suc, _+_, _/_, _%_}
+use mathlib.Core.Bool.{Bool, true, false, cond, _&&_, _||_}
+use lib.Dec.{eqb, leb, ltb}
+use Rattle.commands.specs.declared.Bias.{Bias}
+use Rattle.commands.specs.declared.Bias.the-variants.{Half, Third}
+use Rattle.commands.specs.declared.Commons.{Commons}
+use Rattle.commands.specs.declared.Commons.the-variants.{Two, Three, Four}
+use Rattle.commands.specs.declared.Command.{Command}
+use Rattle.commands.specs.declared.Command.the-variants.{SysDis, SysEn, LcdOff, LcdOn, TimerDis, WdtDis, TimerEn, WdtEn, ToneOff, ToneOn, ClrTimer, ClrWdt, Xtal32k, Rc256k, Ext256k, BiasCom, Tone4k, Tone2k, IrqDis, IrqEn, Rate, Test, Normal}
+use Rattle.commands.specs.declared.Decoded.{Decoded}
+use Rattle.commands.specs.declared.Decoded.the-variants.{Undefined, Means}
+
+-- A row of the table covers the upper bytes from `low` to `high`.
+abbrev pub within : ℕ → ℕ → ℕ → Bool
+within low high byte = leb low byte && leb byte high
+
+-- The bits of a bias command, 0010abXc: c chooses the bias, ab the commons.
+abbrev pub biasBy : ℕ → Bias
+biasBy c = cond (eqb c 0) Half Third
+
+abbrev pub commonsBy : ℕ → Commons
+commonsBy ab = cond (eqb ab 0) Two (cond (eqb ab 1) Three Four)
+
+-- The pattern rule: the meaning that the upper eight bits of a code decide, row by row as the paper lists them. CLR WDT
+-- stands apart from CLR TIMER, whose pattern in the data sheet overlaps it.
+unfoldable pub byteMeaning : ℕ → Decoded
+byteMeaning byte =
+    cond (eqb byte 0x00) (Means SysDis)
+    (cond (eqb byte 0x01) (Means SysEn)
+    (cond (eqb byte 0x02) (Means LcdOff)
+    (cond (eqb byte 0x03) (Means LcdOn)
+    (cond (eqb byte 0x04) (Means TimerDis)
+    (cond (eqb byte 0x05) (Means WdtDis)
+    (cond (eqb byte 0x06) (Means TimerEn)
+    (cond (eqb byte 0x07) (Means WdtEn)
+    (cond (eqb byte 0x08) (Means ToneOff)
+    (cond (eqb byte 0x09) (Means ToneOn)
+    (cond (within 0x0C 0x0D byte) (Means ClrTimer)
+    (cond (within 0x0E 0x0F byte) (Means ClrWdt)
+    (cond (within 0x14 0x17 byte) (Means Xtal32k)
+    (cond (within 0x18 0x1B byte) (Means Rc256k)
+    (cond (within 0x1C 0x1F byte) (Means Ext256k)
+    (cond (within 0x20 0x2B byte) (Means (BiasCom (biasBy (byte % 2)) (commonsBy (byte / 4 % 4))))
+    (cond (within 0x40 0x5F byte) (Means Tone4k)
+    (cond (within 0x60 0x7F byte) (Means Tone2k)
+    (cond (within 0x80 0x87 byte || within 0x90 0x97 byte) (Means IrqDis)
+    (cond (within 0x88 0x8F byte || within 0x98 0x9F byte) (Means IrqEn)
+    (cond (within 0xA0 0xBF byte) (Means (Rate (byte % 8)))
+    (cond (eqb byte 0xE0) (Means Test)
+    (cond (eqb byte 0xE3) (Means Normal)
+    Undefined))))))))))))))))))))))
+
+-- A nine-bit code means what its upper eight bits decide; a number above 511 is no code and means nothing.
+unfoldable pub codeMeaning : ℕ → Decoded
+codeMeaning code = cond (ltb 511 code) Undefined (byteMeaning (code / 2))
+
+-- How many numbers below n pass a test.
+abbrev pub below : ℕ → (ℕ → Bool) → ℕ
+below zero test = 0
+below (suc n) test = cond (test n) 1 0 + below n test
+
+-- Whether a meaning is none.
+abbrev pub undefined : Decoded → Bool
+undefined Undefined = true
+undefined (Means command) = false

@@ -1,0 +1,4 @@
+pub mod Effects
+pub mod Pins
+pub mod Settings
+pub mod Ticks
