@@ -4,16 +4,16 @@ use mathlib.Core.Path.{_∙_, sym}
 use Rattle.ground.specs.Determined.{Determined}
 use Rattle.clock.proofs.Timer.cleared.Kinds as cleared-kinds
 use Rattle.clock.proofs.Timer.cleared.Reads as cleared-reads
-use Rattle.clock.proofs.Timer.all_cleared.Kinds as all-cleared-kinds
-use Rattle.clock.proofs.Timer.all_cleared.Reads as all-cleared-reads
+use Rattle.clock.proofs.Timer.watchdog_cleared.Kinds as watchdog-cleared-kinds
+use Rattle.clock.proofs.Timer.watchdog_cleared.Reads as watchdog-cleared-reads
 use Rattle.clock.proofs.Counters.ticked.Kinds as ticked-kinds
 use Rattle.clock.proofs.Counters.ticked.Reads as ticked-reads
 
 pub cleared-determined : Determined 0 cleared-kinds.ps cleared-kinds.r cleared-reads.Post
 cleared-determined κs args x y end end' p q = p ∙ sym q
 
-pub all-cleared-determined : Determined 0 all-cleared-kinds.ps all-cleared-kinds.r all-cleared-reads.Post
-all-cleared-determined κs args x y end end' p q = p ∙ sym q
+pub watchdog-cleared-determined : Determined 0 watchdog-cleared-kinds.ps watchdog-cleared-kinds.r watchdog-cleared-reads.Post
+watchdog-cleared-determined κs args x y end end' p q = p ∙ sym q
 
 pub ticked-determined : Determined 0 ticked-kinds.ps ticked-kinds.r ticked-reads.Post
 ticked-determined κs args x y end end' p q = p ∙ sym q

@@ -136,28 +136,26 @@ impl Timer {
         Timer { divider, ..self }
     }
 
-    // CLR TIMER.
+    // What CLR TIMER leaves.
     pub fn cleared(self) -> Timer
         ensures { λ r. ⌜ r ≡ timerCleared self ⌝ }
     {
+        let watchdog = self.watchdog;
         Timer {
             divider: Divider { count: 0 },
             base: BaseCounter { count: 0 },
-            ..self
+            watchdog,
         }
     }
 
-    // CLR WDT.
-    pub fn all_cleared(self) -> Timer
+    // What CLR WDT leaves.
+    pub fn watchdog_cleared(self) -> Timer
         ensures { λ r. ⌜ r ≡ watchdogCleared self ⌝ }
     {
-        Timer {
-            watchdog: Watchdog {
-                count: 0,
-                flag: false,
-            },
-            ..self.cleared()
-        }
+        let mut timer = self.cleared();
+        timer.watchdog.count = 0;
+        timer.watchdog.flag = false;
+        timer
     }
 }
 

@@ -19,27 +19,6 @@ use Rattle.commands.specs.Commands.{within, byteMeaning, codeMeaning}
 use Rattle.commands.specs.Numbers.{decodedNumber}
 use Rattle.ground.specs.Values.{values, values-at, agree}
 
--- the table of src/table.rt
-abbrev pub numbers : List ℕ
-numbers =
-    0 ∷ 0 ∷ 1 ∷ 1 ∷ 2 ∷ 2 ∷ 3 ∷ 3 ∷ 4 ∷ 4 ∷ 5 ∷ 5 ∷ 6 ∷ 6 ∷ 7 ∷ 7 ∷ 8 ∷ 8 ∷ 9 ∷ 9 ∷ 255 ∷ 255 ∷ 255 ∷ 255 ∷ 12 ∷ 12 ∷ 12 ∷ 12 ∷ 14 ∷ 14 ∷ 14 ∷ 14 ∷
-    255 ∷ 255 ∷ 255 ∷ 255 ∷ 255 ∷ 255 ∷ 255 ∷ 255 ∷ 20 ∷ 20 ∷ 20 ∷ 20 ∷ 20 ∷ 20 ∷ 20 ∷ 20 ∷ 24 ∷ 24 ∷ 24 ∷ 24 ∷ 24 ∷ 24 ∷ 24 ∷ 24 ∷ 28 ∷ 28 ∷ 28 ∷ 28 ∷ 28 ∷ 28 ∷ 28 ∷ 28 ∷
-    32 ∷ 32 ∷ 33 ∷ 33 ∷ 32 ∷ 32 ∷ 33 ∷ 33 ∷ 36 ∷ 36 ∷ 37 ∷ 37 ∷ 36 ∷ 36 ∷ 37 ∷ 37 ∷ 40 ∷ 40 ∷ 41 ∷ 41 ∷ 40 ∷ 40 ∷ 41 ∷ 41 ∷ 255 ∷ 255 ∷ 255 ∷ 255 ∷ 255 ∷ 255 ∷ 255 ∷ 255 ∷
-    255 ∷ 255 ∷ 255 ∷ 255 ∷ 255 ∷ 255 ∷ 255 ∷ 255 ∷ 255 ∷ 255 ∷ 255 ∷ 255 ∷ 255 ∷ 255 ∷ 255 ∷ 255 ∷ 255 ∷ 255 ∷ 255 ∷ 255 ∷ 255 ∷ 255 ∷ 255 ∷ 255 ∷ 255 ∷ 255 ∷ 255 ∷ 255 ∷ 255 ∷ 255 ∷ 255 ∷ 255 ∷
-    64 ∷ 64 ∷ 64 ∷ 64 ∷ 64 ∷ 64 ∷ 64 ∷ 64 ∷ 64 ∷ 64 ∷ 64 ∷ 64 ∷ 64 ∷ 64 ∷ 64 ∷ 64 ∷ 64 ∷ 64 ∷ 64 ∷ 64 ∷ 64 ∷ 64 ∷ 64 ∷ 64 ∷ 64 ∷ 64 ∷ 64 ∷ 64 ∷ 64 ∷ 64 ∷ 64 ∷ 64 ∷
-    64 ∷ 64 ∷ 64 ∷ 64 ∷ 64 ∷ 64 ∷ 64 ∷ 64 ∷ 64 ∷ 64 ∷ 64 ∷ 64 ∷ 64 ∷ 64 ∷ 64 ∷ 64 ∷ 64 ∷ 64 ∷ 64 ∷ 64 ∷ 64 ∷ 64 ∷ 64 ∷ 64 ∷ 64 ∷ 64 ∷ 64 ∷ 64 ∷ 64 ∷ 64 ∷ 64 ∷ 64 ∷
-    96 ∷ 96 ∷ 96 ∷ 96 ∷ 96 ∷ 96 ∷ 96 ∷ 96 ∷ 96 ∷ 96 ∷ 96 ∷ 96 ∷ 96 ∷ 96 ∷ 96 ∷ 96 ∷ 96 ∷ 96 ∷ 96 ∷ 96 ∷ 96 ∷ 96 ∷ 96 ∷ 96 ∷ 96 ∷ 96 ∷ 96 ∷ 96 ∷ 96 ∷ 96 ∷ 96 ∷ 96 ∷
-    96 ∷ 96 ∷ 96 ∷ 96 ∷ 96 ∷ 96 ∷ 96 ∷ 96 ∷ 96 ∷ 96 ∷ 96 ∷ 96 ∷ 96 ∷ 96 ∷ 96 ∷ 96 ∷ 96 ∷ 96 ∷ 96 ∷ 96 ∷ 96 ∷ 96 ∷ 96 ∷ 96 ∷ 96 ∷ 96 ∷ 96 ∷ 96 ∷ 96 ∷ 96 ∷ 96 ∷ 96 ∷
-    128 ∷ 128 ∷ 128 ∷ 128 ∷ 128 ∷ 128 ∷ 128 ∷ 128 ∷ 128 ∷ 128 ∷ 128 ∷ 128 ∷ 128 ∷ 128 ∷ 128 ∷ 128 ∷ 136 ∷ 136 ∷ 136 ∷ 136 ∷ 136 ∷ 136 ∷ 136 ∷ 136 ∷ 136 ∷ 136 ∷ 136 ∷ 136 ∷ 136 ∷ 136 ∷ 136 ∷ 136 ∷
-    128 ∷ 128 ∷ 128 ∷ 128 ∷ 128 ∷ 128 ∷ 128 ∷ 128 ∷ 128 ∷ 128 ∷ 128 ∷ 128 ∷ 128 ∷ 128 ∷ 128 ∷ 128 ∷ 136 ∷ 136 ∷ 136 ∷ 136 ∷ 136 ∷ 136 ∷ 136 ∷ 136 ∷ 136 ∷ 136 ∷ 136 ∷ 136 ∷ 136 ∷ 136 ∷ 136 ∷ 136 ∷
-    160 ∷ 160 ∷ 161 ∷ 161 ∷ 162 ∷ 162 ∷ 163 ∷ 163 ∷ 164 ∷ 164 ∷ 165 ∷ 165 ∷ 166 ∷ 166 ∷ 167 ∷ 167 ∷ 160 ∷ 160 ∷ 161 ∷ 161 ∷ 162 ∷ 162 ∷ 163 ∷ 163 ∷ 164 ∷ 164 ∷ 165 ∷ 165 ∷ 166 ∷ 166 ∷ 167 ∷ 167 ∷
-    160 ∷ 160 ∷ 161 ∷ 161 ∷ 162 ∷ 162 ∷ 163 ∷ 163 ∷ 164 ∷ 164 ∷ 165 ∷ 165 ∷ 166 ∷ 166 ∷ 167 ∷ 167 ∷ 160 ∷ 160 ∷ 161 ∷ 161 ∷ 162 ∷ 162 ∷ 163 ∷ 163 ∷ 164 ∷ 164 ∷ 165 ∷ 165 ∷ 166 ∷ 166 ∷ 167 ∷ 167 ∷
-    255 ∷ 255 ∷ 255 ∷ 255 ∷ 255 ∷ 255 ∷ 255 ∷ 255 ∷ 255 ∷ 255 ∷ 255 ∷ 255 ∷ 255 ∷ 255 ∷ 255 ∷ 255 ∷ 255 ∷ 255 ∷ 255 ∷ 255 ∷ 255 ∷ 255 ∷ 255 ∷ 255 ∷ 255 ∷ 255 ∷ 255 ∷ 255 ∷ 255 ∷ 255 ∷ 255 ∷ 255 ∷
-    255 ∷ 255 ∷ 255 ∷ 255 ∷ 255 ∷ 255 ∷ 255 ∷ 255 ∷ 255 ∷ 255 ∷ 255 ∷ 255 ∷ 255 ∷ 255 ∷ 255 ∷ 255 ∷ 255 ∷ 255 ∷ 255 ∷ 255 ∷ 255 ∷ 255 ∷ 255 ∷ 255 ∷ 255 ∷ 255 ∷ 255 ∷ 255 ∷ 255 ∷ 255 ∷ 255 ∷ 255 ∷
-    224 ∷ 224 ∷ 255 ∷ 255 ∷ 255 ∷ 255 ∷ 227 ∷ 227 ∷ 255 ∷ 255 ∷ 255 ∷ 255 ∷ 255 ∷ 255 ∷ 255 ∷ 255 ∷ 255 ∷ 255 ∷ 255 ∷ 255 ∷ 255 ∷ 255 ∷ 255 ∷ 255 ∷ 255 ∷ 255 ∷ 255 ∷ 255 ∷ 255 ∷ 255 ∷ 255 ∷ 255 ∷
-    255 ∷ 255 ∷ 255 ∷ 255 ∷ 255 ∷ 255 ∷ 255 ∷ 255 ∷ 255 ∷ 255 ∷ 255 ∷ 255 ∷ 255 ∷ 255 ∷ 255 ∷ 255 ∷ 255 ∷ 255 ∷ 255 ∷ 255 ∷ 255 ∷ 255 ∷ 255 ∷ 255 ∷ 255 ∷ 255 ∷ 255 ∷ 255 ∷ 255 ∷ 255 ∷ 255 ∷ 255 ∷
-    []
-
 -- the arms of the decoder for a single number, the last one first
 abbrev pub rows : List (ℕ × Command)
 rows =
@@ -93,18 +72,14 @@ lookup-misses n (row ∷ rest) m = simp (ne-eqb _ _ (m .1), lookup-misses n rest
 abbrev pub ruled : ℕ → ℕ
 ruled code = decodedNumber (codeMeaning code)
 
--- the test of the table: each entry is the number that the rule gives its code
-follows : numbers ≡ values ruled 0 512
-unfolding codeMeaning byteMeaning
-follows = refl
-
 -- the test of the numbers: each stands for what the rule says
 told : values (λ code. named (ruled code)) 0 512 ≡ values codeMeaning 0 512
 unfolding codeMeaning byteMeaning
 told = refl
 
-pub numbers-follow : (code : ℕ) → code < 512 → getD numbers code 0 ≡ ruled code
-numbers-follow code h = ap (λ (l : List ℕ). getD l code 0) follows ∙ values-at ruled 512 code 0 h
+-- a table that passes the test, entry by entry, has the number that the rule gives each code
+pub table-follows : (table : List ℕ) → table ≡ values ruled 0 512 → (code : ℕ) → code < 512 → getD table code 0 ≡ ruled code
+table-follows table same code h = ap (λ (l : List ℕ). getD l code 0) same ∙ values-at ruled 512 code 0 h
 
 pub past-undefined : (code : ℕ) → 511 < code → codeMeaning code ≡ Undefined
 unfolding codeMeaning

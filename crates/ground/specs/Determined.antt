@@ -12,3 +12,11 @@ abbrev pub Determined : (n : ℕ) (ps : List (PK n)) (r : RK n) → Out n ps r �
 Determined n ps r post =
     (κs : Lfts n) (args : Dens κs ps) (x y : resT r κs .Denot) (end end' : AtExit (endedOf n ps r) κs)
     → post κs args x end → post κs args y end' → x ≡ y
+
+-- Where the function is lent bytes to write, the bytes that it leaves are determined too: `lent` reads them off the
+-- parameters at exit.
+abbrev pub DeterminedWith : (n : ℕ) (ps : List (PK n)) (r : RK n)
+    → ((κs : Lfts n) → AtExit (endedOf n ps r) κs → List ℕ) → Out n ps r → Type 0
+DeterminedWith n ps r lent post =
+    (κs : Lfts n) (args : Dens κs ps) (x y : resT r κs .Denot) (end end' : AtExit (endedOf n ps r) κs)
+    → post κs args x end → post κs args y end' → (x ≡ y) × (lent κs end ≡ lent κs end')

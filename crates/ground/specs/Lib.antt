@@ -1,2 +1,4 @@
 pub mod Determined
+pub mod Refusals
 pub mod Values
+pub mod Written

@@ -1,2 +1,66 @@
-// What every crate above shares, as definitions and laws: what it means that a contract determines its result, and how
-// one computed test becomes a law. It has no code. Assumes nothing.
+// What every crate above shares: the refusals of 01 and their numbers; what it means that a contract determines its
+// result; bytes written over a buffer; and how one computed test becomes a law. Assumes nothing.
+ghost use mathlib.Core.Path.{_≡_};
+ghost use Rattle.ground.specs.Refusals.{refusalNumber, refusalPlace};
+
+// Why a call was refused. A place is the lowest index at fault.
+pub enum Refusal {
+    // 20: a sample above 15
+    SampleAbove,
+    // 21: no nibble or no command asked
+    NothingAsked,
+    // 22: a first address above 31, more addresses than there are after it, or more than 32 commands
+    OutOfRange,
+    // 23: a nibble above 15
+    NibbleAbove(usize),
+    // 24: an undefined command
+    UndefinedCommand(usize),
+    // 25: an output shorter than needed
+    OutputShort,
+    // 26: a number of noted bytes that is 0, above 128 or no multiple of 4
+    NotedCount,
+    // 27: a noted byte above 1
+    NotedAbove(usize),
+    // 28: a malformed state record
+    Malformed,
+    // 29: a power-on memory that is not 32 values
+    MemoryCount,
+}
+
+impl Refusal {
+    // The refusal's number in 01's table.
+    pub fn number(self) -> u8
+        ensures { λ r. ⌜ r ≡ refusalNumber self ⌝ }
+    {
+        match self {
+            Refusal::SampleAbove => 20,
+            Refusal::NothingAsked => 21,
+            Refusal::OutOfRange => 22,
+            Refusal::NibbleAbove(_) => 23,
+            Refusal::UndefinedCommand(_) => 24,
+            Refusal::OutputShort => 25,
+            Refusal::NotedCount => 26,
+            Refusal::NotedAbove(_) => 27,
+            Refusal::Malformed => 28,
+            Refusal::MemoryCount => 29,
+        }
+    }
+
+    // Where the fault is: the lowest index, or 0 for a refusal that has no place.
+    pub fn place(self) -> usize
+        ensures { λ r. ⌜ r ≡ refusalPlace self ⌝ }
+    {
+        match self {
+            Refusal::SampleAbove => 0,
+            Refusal::NothingAsked => 0,
+            Refusal::OutOfRange => 0,
+            Refusal::NibbleAbove(place) => place,
+            Refusal::UndefinedCommand(place) => place,
+            Refusal::OutputShort => 0,
+            Refusal::NotedCount => 0,
+            Refusal::NotedAbove(place) => place,
+            Refusal::Malformed => 0,
+            Refusal::MemoryCount => 0,
+        }
+    }
+}

@@ -3,7 +3,7 @@ use mathlib.Core.Path.{_≡_}
 use Prim.Native.Nat.{ℕ, zero, suc, _+_, _-_, _<_}
 use native.Mathlib.Nat.{zero-add, suc-add, not-suc-le-zero}
 use native.Mathlib.Numerals.{sub-one}
-use Rattle.rules.specs.declared.settings.Settings.{Settings}
+use Rattle.rules.specs.declared.Settings.{Settings}
 use Rattle.rules.specs.Ticks.{ticked, advanced}
 
 -- one of the ticks done

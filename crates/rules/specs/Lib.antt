@@ -1,4 +1,3 @@
 pub mod Effects
-pub mod Pins
 pub mod Settings
 pub mod Ticks

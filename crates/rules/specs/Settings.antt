@@ -6,14 +6,14 @@ use Rattle.clock.specs.declared.Timer.{Timer}
 use Rattle.clock.specs.declared.Counters.{Counters}
 use Rattle.commands.specs.declared.Bias.{Bias}
 use Rattle.commands.specs.declared.Commons.{Commons}
-use Rattle.rules.specs.declared.settings.System.{System}
-use Rattle.rules.specs.declared.settings.Lcd.{Lcd}
-use Rattle.rules.specs.declared.settings.Pitch.{Pitch}
-use Rattle.rules.specs.declared.settings.Tone.{Tone}
-use Rattle.rules.specs.declared.settings.IrqSource.{IrqSource}
-use Rattle.rules.specs.declared.settings.Irq.{Irq}
-use Rattle.rules.specs.declared.settings.Base.{Base}
-use Rattle.rules.specs.declared.settings.Settings.{Settings}
+use Rattle.rules.specs.declared.System.{System}
+use Rattle.rules.specs.declared.Lcd.{Lcd}
+use Rattle.rules.specs.declared.Pitch.{Pitch}
+use Rattle.rules.specs.declared.Tone.{Tone}
+use Rattle.rules.specs.declared.IrqSource.{IrqSource}
+use Rattle.rules.specs.declared.Irq.{Irq}
+use Rattle.rules.specs.declared.Base.{Base}
+use Rattle.rules.specs.declared.Settings.{Settings}
 
 abbrev withSystem : System → Settings → Settings
 withSystem x s = record { system = x; lcd = s .lcd; tone = s .tone; irq = s .irq; base = s .base; counters = s .counters; test = s .test }

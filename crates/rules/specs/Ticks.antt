@@ -4,7 +4,7 @@ use mathlib.Core.Bool.{Bool, true, false, cond, _||_}
 use Rattle.clock.specs.declared.Source.{Source}
 use Rattle.clock.specs.declared.Source.the-variants.{Xtal, Rc, Ext}
 use Rattle.clock.specs.Ticks.{countersTicked}
-use Rattle.rules.specs.declared.settings.Settings.{Settings}
+use Rattle.rules.specs.declared.Settings.{Settings}
 use Rattle.rules.specs.Settings.{countersTo}
 
 -- Running: the system is on, or the clock comes from EXT.

@@ -115,7 +115,8 @@ returns-28 : tie.Need-returns-28
 returns-28 c = rate _ _ (c .before .before .before .number-of .ensures) (c .before .if1 .left) (c .if2 .taken)
 
 returns-29 : tie.Need-returns-29
-returns-29 c = other _ _ (c .before .before .number-of .ensures) (simp (lt-leb _ _ (c .if1 .taken))) (c .before .match .rest)
+returns-29 c =
+    other _ _ (c .before .before .number-of .ensures) (simp (lt-leb _ _ (c .if1 .taken))) (c .before .match .rest)
 
 returns-30 : tie.Need-returns-30
 returns-30 c =

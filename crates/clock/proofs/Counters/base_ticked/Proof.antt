@@ -12,7 +12,8 @@ stepped-requires-2 c κs = search needs
 
 returns : tie.Need-returns
 unfolding baseTicked
-returns c = simp (c .before .before .before .stepped .ensures, c .before .stepped2 .ensures, c .before .before .if1 .taken)
+returns c =
+    simp (c .before .before .before .stepped .ensures, c .before .stepped2 .ensures, c .before .before .if1 .taken)
 
 returns-2 : tie.Need-returns-2
 unfolding baseTicked

@@ -20,15 +20,28 @@ stepped-requires-3 c κs = search needs
 
 returns : tie.Need-returns
 unfolding timerStepped
-returns c = let d = c .before .before .before .before .before .before .stepped .ensures in let b = c .before .before .before .stepped2 .ensures in let turn = simp d at (sym (c .before .before .before .before .before .due .ensures) ∙ c .before .before .before .before .if1 .taken) in let round = simp b at (c .before .if2 .taken) in simp (d, b, c .stepped3 .ensures, turn, round)
+returns c =
+    let d = c .before .before .before .before .before .before .stepped .ensures in
+    let b = c .before .before .before .stepped2 .ensures in
+    let turn = simp d at (sym (c .before .before .before .before .before .due .ensures) ∙ c .before .before .before .before .if1 .taken) in
+    let round = simp b at (c .before .if2 .taken) in
+    simp (d, b, c .stepped3 .ensures, turn, round)
 
 returns-2 : tie.Need-returns-2
 unfolding timerStepped
-returns-2 c = let d = c .before .before .before .before .before .before .stepped .ensures in let b = c .before .before .before .stepped2 .ensures in let turn = simp d at (sym (c .before .before .before .before .before .due .ensures) ∙ c .before .before .before .before .if1 .taken) in let round = simp b at (ne-eqb _ _ (c .before .if2 .left)) in simp (d, b, turn, round)
+returns-2 c =
+    let d = c .before .before .before .before .before .before .stepped .ensures in
+    let b = c .before .before .before .stepped2 .ensures in
+    let turn = simp d at (sym (c .before .before .before .before .before .due .ensures) ∙ c .before .before .before .before .if1 .taken) in
+    let round = simp b at (ne-eqb _ _ (c .before .if2 .left)) in
+    simp (d, b, turn, round)
 
 returns-3 : tie.Need-returns-3
 unfolding timerStepped
-returns-3 c = let d = c .before .before .before .before .stepped .ensures in let turn = simp d at (sym (c .before .before .before .due .ensures) ∙ c .before .before .if1 .left) in simp (d, turn)
+returns-3 c =
+    let d = c .before .before .before .before .stepped .ensures in
+    let turn = simp d at (sym (c .before .before .before .due .ensures) ∙ c .before .before .if1 .left) in
+    simp (d, turn)
 
 pub stepped-spec : {M : Type 1} → statement M
 stepped-spec =

@@ -1,0 +1,14 @@
+-- Each public contract of this crate determines its result: it is an equation, and both results meet it.
+-- Assumes nothing.
+use mathlib.Core.Path.{_∙_, sym}
+use Rattle.ground.specs.Determined.{Determined}
+use Rattle.ground.proofs.Refusal.number.Kinds as refusal-number-kinds
+use Rattle.ground.proofs.Refusal.number.Reads as refusal-number-reads
+use Rattle.ground.proofs.Refusal.place.Kinds as refusal-place-kinds
+use Rattle.ground.proofs.Refusal.place.Reads as refusal-place-reads
+
+pub refusal-number-determined : Determined 0 refusal-number-kinds.ps refusal-number-kinds.r refusal-number-reads.Post
+refusal-number-determined κs args x y end end' p q = p ∙ sym q
+
+pub refusal-place-determined : Determined 0 refusal-place-kinds.ps refusal-place-kinds.r refusal-place-reads.Post
+refusal-place-determined κs args x y end end' p q = p ∙ sym q

@@ -1,0 +1,57 @@
+-- Laws of bytes written over a buffer. Assumes nothing.
+use mathlib.Core.Path.{_≡_, ap, sym, _∙_}
+use mathlib.Core.List.{List, [], _∷_, _++_, append-assoc}
+use Prim.Native.Nat.{ℕ, suc, _+_, _≤_, _<_}
+use native.Mathlib.Omega.{arith}
+use native.Mathlib.Numerals.{add-one}
+use lib.ListN.{length, take, drop, set, length-append}
+use lib.Seq.{paste, length-paste, take-paste, drop-paste, take-length, set-split, append-snoc, drop-drop}
+use Rattle.ground.specs.Written.{over, Wrote}
+
+pub over-paste : (buffer bytes : List ℕ) (at : ℕ) → paste buffer at bytes (length bytes) ≡ over buffer at bytes
+over-paste buffer bytes at = ap (λ (t : List ℕ). take at buffer ++ t ++ drop (at + length bytes) buffer) (take-length bytes)
+
+module _ (buffer bytes : List ℕ) (at : ℕ) (fits : at + length bytes ≤ length buffer) where
+  pub length-over : length (over buffer at bytes) ≡ length buffer
+  length-over = sym (ap length (over-paste buffer bytes at)) ∙ length-paste buffer at bytes (length bytes) fits (omega arith)
+
+  pub take-over : take (at + length bytes) (over buffer at bytes) ≡ take at buffer ++ bytes
+  take-over =
+      sym (ap (take (at + length bytes)) (over-paste buffer bytes at))
+      ∙ take-paste buffer at bytes (length bytes) (omega arith) (omega arith)
+      ∙ ap (λ (t : List ℕ). take at buffer ++ t) (take-length bytes)
+
+  pub drop-over : drop (at + length bytes) (over buffer at bytes) ≡ drop (at + length bytes) buffer
+  drop-over =
+      sym (ap (drop (at + length bytes)) (over-paste buffer bytes at))
+      ∙ drop-paste buffer at bytes (length bytes) (omega arith) (omega arith)
+
+-- one store is a write of one byte
+pub set-over : (buffer : List ℕ) (at byte : ℕ) → at < length buffer → set buffer at byte ≡ over buffer at (byte ∷ [])
+set-over buffer at byte h =
+    set-split buffer at byte h
+    ∙ sym (append-snoc (take at buffer) byte (drop (suc at) buffer))
+    ∙ ap (λ (n : ℕ). take at buffer ++ (byte ∷ []) ++ drop n buffer) (sym (add-one at))
+
+-- what is written right after what was written
+pub over-over : (buffer first second : List ℕ) (at : ℕ) → at + length first + length second ≤ length buffer
+    → over (over buffer at first) (at + length first) second ≡ over buffer at (first ++ second)
+over-over buffer first second at h =
+    let head : take (at + length first) (over buffer at first) ≡ take at buffer ++ first = take-over buffer first at (omega arith) in
+    let tail : drop (at + length first + length second) (over buffer at first) ≡ drop (at + length first + length second) buffer =
+    sym (drop-drop (length second) (at + length first) (over buffer at first))
+    ∙ ap (drop (length second)) (drop-over buffer first at (omega arith))
+    ∙ drop-drop (length second) (at + length first) buffer in
+    let sum : at + length first + length second ≡ at + length (first ++ second) = omega (arith, length-append first second) in
+    ap (λ (x : List ℕ). x ++ second ++ drop (at + length first + length second) (over buffer at first)) head
+    ∙ ap (λ (x : List ℕ). take at buffer ++ first ++ second ++ x) (tail ∙ ap (λ (n : ℕ). drop n buffer) sum)
+    ∙ ap (λ (x : List ℕ). x ++ drop (at + length (first ++ second)) buffer) (append-assoc (take at buffer) first second)
+
+-- one write after another
+pub wrote-then : {a b c : List ℕ} (first second : List ℕ) {at k m : ℕ} → Wrote a at first b k → Wrote b k second c m
+    → at + length first + length second ≤ length a → Wrote a at (first ++ second) c m
+wrote-then {a} {b} {c} first second {at} {k} {m} p q h =
+    record {
+      cursor = omega (arith, length-append first second);
+      buffer = q .buffer ∙ rw (p .buffer, p .cursor) (over-over a first second at h);
+    }

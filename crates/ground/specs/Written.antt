@@ -1,0 +1,14 @@
+-- Bytes written over a buffer, the rest of it as it was. Assumes nothing.
+use mathlib.Core.Path.{_≡_}
+use mathlib.Core.List.{List, _++_}
+use Prim.Native.Nat.{ℕ, _+_}
+use lib.ListN.{length, take, drop}
+
+-- The buffer with `bytes` over it from `at` on.
+abbrev pub over : List ℕ → ℕ → List ℕ → List ℕ
+over buffer at bytes = take at buffer ++ bytes ++ drop (at + length bytes) buffer
+
+-- A write at a cursor: the bytes stand there, and the cursor after them is `next`.
+pub record Wrote (before : List ℕ) (at : ℕ) (bytes after : List ℕ) (next : ℕ) : Type 0 where
+  pub cursor : next ≡ at + length bytes
+  pub buffer : after ≡ over before at bytes

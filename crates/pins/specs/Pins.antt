@@ -1,0 +1,43 @@
+-- 01 "Ticks", its pins: IRQ, BZ and its partner, and whether a cell shows. Assumes nothing.
+use Prim.Native.Nat.{ℕ, _%_}
+use mathlib.Core.Bool.{Bool, true, false, not, _&&_}
+use lib.Dec.{leb, ltb}
+use Rattle.clock.specs.declared.Timer.{Timer}
+use Rattle.rules.specs.declared.IrqSource.{IrqSource}
+use Rattle.rules.specs.declared.IrqSource.the-variants.{Neither, TimeBase, Flag}
+use Rattle.rules.specs.declared.Pitch.{Pitch}
+use Rattle.rules.specs.declared.Pitch.the-variants.{FourK, TwoK}
+use Rattle.rules.specs.declared.Settings.{Settings}
+use Rattle.commands.specs.Numbers.{commonsNumber}
+use Rattle.rules.specs.Ticks.{running}
+
+-- A source asks for IRQ: the time base while b is 128 or more, the flag while it is set.
+abbrev pub asserted : IrqSource → Timer → Bool
+asserted Neither t = false
+asserted TimeBase t = leb 128 (t .base .count)
+asserted Flag t = t .watchdog .flag
+
+-- IRQ is low if its output is on and its source asks for it; otherwise it floats.
+unfoldable pub irqLow : Settings → Bool
+irqLow s = s .irq .on && asserted (s .irq .source) (s .counters .timer)
+
+-- The tone's level by q: at 4 kHz the upper half of each eight, at 2 kHz of sixteen.
+abbrev pub wave : Pitch → ℕ → Bool
+wave FourK q = leb 4 (q % 8)
+wave TwoK q = leb 8 q
+
+-- There is a tone while the chip is running with the tone on.
+unfoldable pub sounding : Settings → Bool
+sounding s = running s && s .tone .on
+
+-- BZ follows the tone and its partner is its opposite; with no tone both are low.
+unfoldable pub bzHigh : Settings → Bool
+bzHigh s = sounding s && wave (s .tone .pitch) (s .counters .toner .count)
+
+unfoldable pub partnerHigh : Settings → Bool
+partnerHigh s = sounding s && not (wave (s .tone .pitch) (s .counters .toner .count))
+
+-- A cell of common c whose bit in the memory is `bit` shows if the chip is running, the LCD is on, c is in use and the
+-- bit is 1.
+unfoldable pub shows : Settings → ℕ → Bool → Bool
+shows s c bit = running s && s .lcd .on && ltb c (commonsNumber (s .lcd .commons)) && bit
