@@ -1,3 +1,4 @@
+pub mod Bits
 pub mod Determined
 pub mod Refusals
 pub mod Values

@@ -1,5 +1,5 @@
 // What every crate above shares: the refusals of 01 and their numbers; what it means that a contract determines its
-// result; bytes written over a buffer; and how one computed test becomes a law. Assumes nothing.
+// result; bits and bytes written over a buffer; and how one computed test becomes a law. Assumes nothing.
 ghost use mathlib.Core.Path.{_≡_};
 ghost use Rattle.ground.specs.Refusals.{refusalNumber, refusalPlace};
 
