@@ -1,3 +1,4 @@
 pub mod Effects
+pub mod Numbers
 pub mod Settings
 pub mod Ticks
