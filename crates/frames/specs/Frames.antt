@@ -1,0 +1,149 @@
+-- 01 "Inside a frame": what each phase makes of a bit that is taken or offered, of opening and of closing.
+-- Assumes nothing.
+use Prim.Native.Nat.{ℕ, _+_, _*_, _/_, _%_}
+use mathlib.Core.Bool.{Bool, true, false, cond}
+use lib.Dec.{eqb, ltb}
+use Rattle.ground.specs.Bits.{bitAt, bitNumber}
+use Rattle.commands.specs.declared.Decoded.{Decoded}
+use Rattle.commands.specs.declared.Decoded.the-variants.{Undefined, Means}
+use Rattle.commands.specs.Commands.{codeMeaning}
+use Rattle.frames.specs.declared.Edge.{Edge}
+use Rattle.frames.specs.declared.Edge.the-variants.{Rests, Closes, Opens, Clashes, Takes, Offers, Quiet}
+use Rattle.frames.specs.declared.Phase.{Phase}
+use Rattle.frames.specs.declared.Phase.the-variants.{Idle, Ident, ReadTo, WriteTo, Reading, Writing, Command, Dead}
+use Rattle.frames.specs.declared.Line.{Line}
+use Rattle.frames.specs.declared.Line.the-variants.{Released, Driven}
+use Rattle.frames.specs.declared.Answer.{Answer}
+use Rattle.frames.specs.declared.Answer.the-variants.{Nothing, Opened, Closed, Dropped, Taken, Stored, Obeyed, Passed, Offered, Stray, Unknown, Clash}
+use Rattle.frames.specs.declared.Framed.{Framed}
+use Rattle.frames.specs.Answers.{unfinished}
+
+abbrev pub framed : Phase → Line → Answer → Framed
+framed phase line answer = record { phase = phase; line = line; answer = answer }
+
+-- The bits so far with one more, the first highest. Nine are the most that a phase collects.
+abbrev pub more : ℕ → Bool → ℕ
+more value bit = (2 * value + bitNumber bit) % 512
+
+-- The nibble of four bits so collected: D0 came first.
+abbrev pub turned : ℕ → ℕ
+turned value = value / 8 % 2 + 2 * (value / 4 % 2) + 4 * (value / 2 % 2) + 8 * (value % 2)
+
+-- House rule: A5 is taken and dropped, so an address is what five bits say, and 31 is followed by 0.
+abbrev pub reached : ℕ → ℕ
+reached value = value % 32
+
+abbrev pub next : ℕ → ℕ
+next address = (address + 1) % 32
+
+-- A stray edge changes neither the frame nor DATA.
+abbrev pub stray : Phase → Line → Framed
+stray phase line = framed phase line Stray
+
+-- A bit that is taken and leaves the frame in a phase: DATA is released.
+abbrev pub collected : Phase → Framed
+collected phase = framed phase Released Taken
+
+-- Three bits of ID: 110 reads, 101 writes, 100 commands; with any other the frame is dead.
+unfoldable pub identified : ℕ → Framed
+identified id =
+    cond (eqb id 6) (collected (ReadTo 0 0))
+    (cond (eqb id 5) (collected (WriteTo 0 0))
+    (cond (eqb id 4) (collected (Command 0 0))
+    (framed Dead Released Unknown)))
+
+unfoldable pub identTaken : Bool → ℕ → ℕ → Framed
+identTaken bit count value =
+    cond (ltb count 2) (collected (Ident (count + 1) (more value bit))) (identified (more value bit))
+
+-- Six address bits, A5 first, and the frame reads or writes there.
+unfoldable pub readToTaken : Bool → ℕ → ℕ → Framed
+readToTaken bit count value =
+    cond (ltb count 5) (collected (ReadTo (count + 1) (more value bit))) (collected (Reading (reached (more value bit)) 0))
+
+unfoldable pub writeToTaken : Bool → ℕ → ℕ → Framed
+writeToTaken bit count value =
+    cond (ltb count 5) (collected (WriteTo (count + 1) (more value bit)))
+    (collected (Writing 0 0 (reached (more value bit)) 0))
+
+-- Writing: the fourth bit stores the nibble, steps the address and sets the reading position to D0.
+unfoldable pub nibbleTaken : Bool → ℕ → ℕ → ℕ → ℕ → Framed
+nibbleTaken bit count value at position =
+    cond (ltb count 3) (collected (Writing (count + 1) (more value bit) at position))
+    (framed (Writing 0 0 (next at) 0) Released (Stored at (turned (more value bit))))
+
+-- Nine command bits, highest first, the last ignored: the upper eight are a code, which is obeyed or passed over; more
+-- commands follow without an ID.
+abbrev pub decodedAnswer : Decoded → ℕ → Answer
+decodedAnswer Undefined code = Passed code
+decodedAnswer (Means command) code = Obeyed code
+
+unfoldable pub commandAnswer : ℕ → Answer
+commandAnswer value = decodedAnswer (codeMeaning value) (value / 2)
+
+unfoldable pub commandTaken : Bool → ℕ → ℕ → Framed
+commandTaken bit count value =
+    cond (ltb count 8) (collected (Command (count + 1) (more value bit)))
+    (framed (Command 0 0) Released (commandAnswer (more value bit)))
+
+-- A WR rise. In a read frame and in a dead one it is stray.
+unfoldable pub taken : Bool → Phase → Line → Framed
+taken bit Idle line = stray Idle line
+taken bit (Ident count value) line = identTaken bit count value
+taken bit (ReadTo count value) line = readToTaken bit count value
+taken bit (WriteTo count value) line = writeToTaken bit count value
+taken bit (Reading at position) line = stray (Reading at position) line
+taken bit (Writing count value at position) line = nibbleTaken bit count value at position
+taken bit (Command count value) line = commandTaken bit count value
+taken bit Dead line = stray Dead line
+
+-- A bit of the nibble at the frame's address is offered, D0 first: it goes to DATA.
+abbrev pub offeredIn : Phase → ℕ → Bool → Framed
+offeredIn phase at bit = framed phase (Driven bit) (Offered at bit)
+
+-- Reading: after D3 the address steps and the position returns to D0.
+unfoldable pub readOffered : ℕ → ℕ → ℕ → Framed
+readOffered nibble at position =
+    offeredIn (cond (ltb position 3) (Reading at (position + 1)) (Reading (next at) 0)) at (bitAt position nibble)
+
+-- In a write frame the position cycles, and the address stays.
+abbrev pub writeOffered : ℕ → ℕ → ℕ → ℕ → ℕ → Framed
+writeOffered nibble count value at position =
+    offeredIn (Writing count value at ((position + 1) % 4)) at (bitAt position nibble)
+
+-- An RD fall. In ID, address and command bits and in a dead frame it is stray.
+unfoldable pub offered : ℕ → Phase → Line → Framed
+offered nibble Idle line = stray Idle line
+offered nibble (Ident count value) line = stray (Ident count value) line
+offered nibble (ReadTo count value) line = stray (ReadTo count value) line
+offered nibble (WriteTo count value) line = stray (WriteTo count value) line
+offered nibble (Reading at position) line = readOffered nibble at position
+offered nibble (Writing count value at position) line = writeOffered nibble count value at position
+offered nibble (Command count value) line = stray (Command count value) line
+offered nibble Dead line = stray Dead line
+
+-- The address that a frame has reached, whose nibble it can offer; 0 where it has reached none.
+abbrev pub address : Phase → ℕ
+address Idle = 0
+address (Ident count value) = 0
+address (ReadTo count value) = 0
+address (WriteTo count value) = 0
+address (Reading at position) = at
+address (Writing count value at position) = at
+address (Command count value) = 0
+address Dead = 0
+
+-- The frame ends, and its unfinished bits are dropped.
+unfoldable pub closed : Phase → Framed
+closed phase = framed Idle Released (cond (eqb (unfinished phase) 0) Closed Dropped)
+
+-- A sample, by what it is to the frame. With CS high there is no frame and DATA is released; an opening starts from
+-- nothing; a clash or no edge at all leaves the frame and DATA.
+unfoldable pub frame : Edge → ℕ → Phase → Line → Framed
+frame Rests nibble phase line = framed Idle Released Nothing
+frame Closes nibble phase line = closed phase
+frame Opens nibble phase line = framed (Ident 0 0) Released Opened
+frame Clashes nibble phase line = framed phase line Clash
+frame (Takes bit) nibble phase line = taken bit phase line
+frame Offers nibble phase line = offered nibble phase line
+frame Quiet nibble phase line = framed phase line Nothing
