@@ -6,6 +6,8 @@ use Rattle.frames.specs.declared.Phase.{Phase}
 use Rattle.frames.specs.declared.Phase.the-variants.{Idle, Ident, ReadTo, WriteTo, Reading, Writing, Command, Dead}
 use Rattle.frames.specs.declared.Answer.{Answer}
 use Rattle.frames.specs.declared.Answer.the-variants.{Nothing, Opened, Closed, Dropped, Taken, Stored, Obeyed, Passed, Offered, Stray, Unknown, Clash, Refused}
+use Rattle.frames.specs.declared.Act.{Act}
+use Rattle.frames.specs.declared.Act.the-variants.{Keep, Store, Obey}
 
 -- The number of each answer; a refusal has its own.
 abbrev pub answerNumber : Answer → ℕ
@@ -53,6 +55,23 @@ secondDetail Stray = 0
 secondDetail Unknown = 0
 secondDetail Clash = 0
 secondDetail (Refused refusal) = 0
+
+-- What an answer does beyond the frame: a nibble that is stored changes the memory, a command that is obeyed the
+-- settings, and nothing else changes either.
+abbrev pub act : Answer → Act
+act Nothing = Keep
+act Opened = Keep
+act Closed = Keep
+act Dropped = Keep
+act Taken = Keep
+act (Stored address nibble) = Store address nibble
+act (Obeyed code) = Obey code
+act (Passed code) = Keep
+act (Offered address bit) = Keep
+act Stray = Keep
+act Unknown = Keep
+act Clash = Keep
+act (Refused refusal) = Keep
 
 -- The bits that a closing sample would drop: those of an ID, an address, a nibble being written or a command. Offered
 -- bits never count.

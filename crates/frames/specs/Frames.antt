@@ -79,7 +79,7 @@ decodedAnswer Undefined code = Passed code
 decodedAnswer (Means command) code = Obeyed code
 
 unfoldable pub commandAnswer : ℕ → Answer
-commandAnswer value = decodedAnswer (codeMeaning value) (value / 2)
+commandAnswer value = decodedAnswer (codeMeaning value) (value / 2 % 256)
 
 unfoldable pub commandTaken : Bool → ℕ → ℕ → Framed
 commandTaken bit count value =

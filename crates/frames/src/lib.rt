@@ -4,7 +4,7 @@ ghost use mathlib.Core.Path.{_≡_};
 ghost use Rattle.ground.specs.Bits.{bitAt};
 ghost use Rattle.frames.specs.Samples.{levels, rose, clocked, edge};
 ghost use Rattle.frames.specs.Frames.{more, turned, reached, next, address, stray, collected, identified, identTaken, readToTaken, writeToTaken, nibbleTaken, commandAnswer, commandTaken, taken, readOffered, writeOffered, offered, closed, frame};
-ghost use Rattle.frames.specs.Answers.{unfinished};
+ghost use Rattle.frames.specs.Answers.{act, unfinished};
 use commands::Decoded;
 use ground::Refusal;
 
@@ -62,11 +62,41 @@ pub enum Answer {
     Refused(Refusal),
 }
 
+// What an answer does beyond the frame.
+pub enum Act {
+    Keep,
+    Store(u8, u8),
+    Obey(u8),
+}
+
 // A frame after a sample.
 pub struct Framed {
     pub phase: Phase,
     pub line: Line,
     pub answer: Answer,
+}
+
+impl Answer {
+    // What the answer does beyond the frame: to the memory, or to the settings.
+    pub fn act(self) -> Act
+        ensures { λ r. ⌜ r ≡ act self ⌝ }
+    {
+        match self {
+            Answer::Nothing => Act::Keep,
+            Answer::Opened => Act::Keep,
+            Answer::Closed => Act::Keep,
+            Answer::Dropped => Act::Keep,
+            Answer::Taken => Act::Keep,
+            Answer::Stored(address, nibble) => Act::Store(address, nibble),
+            Answer::Obeyed(code) => Act::Obey(code),
+            Answer::Passed(_) => Act::Keep,
+            Answer::Offered(_, _) => Act::Keep,
+            Answer::Stray => Act::Keep,
+            Answer::Unknown => Act::Keep,
+            Answer::Clash => Act::Keep,
+            Answer::Refused(_) => Act::Keep,
+        }
+    }
 }
 
 // The levels that a sample's number stands for. Only its lowest four bits count.
@@ -129,7 +159,7 @@ pub fn edge_of(before: Levels, after: Levels) -> Edge
 fn with_bit(value: u16, bit: bool) -> u16
     ensures { λ r. ⌜ r ≡ more value bit ⌝ }
 {
-    let doubled = value as u32 * 2;
+    let doubled = 2 * (value as u32);
     if bit {
         return ((doubled + 1) % 512) as u16;
     }
@@ -162,7 +192,7 @@ fn bit_of(position: u8, nibble: u8) -> bool
 
 impl Phase {
     // How many bits a closing sample would drop.
-    pub fn unfinished(self) -> u8
+    fn unfinished(self) -> u8
         ensures { λ r. ⌜ r ≡ unfinished self ⌝ }
     {
         match self {

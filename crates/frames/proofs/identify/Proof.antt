@@ -28,7 +28,8 @@ returns-3 c = simp (c .collect3 .ensures, c .before .match .keys3)
 
 returns-4 : tie.Need-returns-4
 unfolding identified
-returns-4 c = simp (ne-eqb _ _ (c .match .rest .0 .0 .1), ne-eqb _ _ (c .match .rest .0 .1), ne-eqb _ _ (c .match .rest .1))
+returns-4 c =
+    simp (ne-eqb _ _ (c .match .rest .0 .0 .1), ne-eqb _ _ (c .match .rest .0 .1), ne-eqb _ _ (c .match .rest .1))
 
 pub identify-spec : {M : Type 1} → statement M
 identify-spec =

@@ -23,7 +23,8 @@ answer-command-requires c κs = search needs
 
 returns-2 : tie.Need-returns-2
 unfolding commandTaken
-returns-2 c = simp (c .answer-command .ensures, le-ltb _ _ (c .before .if1 .left), c .before .before .with-bit .ensures)
+returns-2 c =
+    simp (c .answer-command .ensures, le-ltb _ _ (c .before .if1 .left), c .before .before .with-bit .ensures)
 
 pub take-command-spec : {M : Type 1} → statement M
 take-command-spec =

@@ -26,7 +26,13 @@ nibble-of-requires c κs = search needs
 
 returns-2 : tie.Need-returns-2
 unfolding nibbleTaken
-returns-2 c = simp (c .nibble-of .ensures, c .before .next-of .ensures, le-ltb _ _ (c .before .before .if1 .left), c .before .before .before .with-bit .ensures)
+returns-2 c =
+    simp (
+      c .nibble-of .ensures,
+      c .before .next-of .ensures,
+      le-ltb _ _ (c .before .before .if1 .left),
+      c .before .before .before .with-bit .ensures,
+    )
 
 pub take-nibble-spec : {M : Type 1} → statement M
 take-nibble-spec =

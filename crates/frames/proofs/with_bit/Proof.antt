@@ -1,32 +1,26 @@
+-- `frames::with_bit` meets its contract. Assumes nothing.
+use native.Mathlib.Nat.{add-zero}
 use borrow.Author.Needs.{needs}
 use Rattle.frames.proofs.with_bit.Statement.{statement}
 use Rattle.frames.proofs.with_bit.Tie as tie
-use Rattle.frames.proofs.with_bit.Reads as reads
-use Rattle.frames.proofs.with_bit.Lts as lts
 
--- src/lib.rt:132:19
 mul-doubled : tie.Need-mul-doubled
 mul-doubled c = search needs
 
--- src/lib.rt:134:18
 add-result : tie.Need-add-result
 add-result c = search needs
 
--- src/lib.rt:134:16
 cast-result : tie.Need-cast-result
 cast-result c = search needs
 
--- src/lib.rt:134:9
 returns : tie.Need-returns
-returns c = ?
+returns c = simp (c .if1 .taken)
 
--- src/lib.rt:136:5
 cast-result-2 : tie.Need-cast-result-2
 cast-result-2 c = search needs
 
--- src/lib.rt:129:1
 returns-2 : tie.Need-returns-2
-returns-2 c = ?
+returns-2 c = simp (c .if1 .left, add-zero)
 
 pub with-bit-spec : {M : Type 1} → statement M
 with-bit-spec =

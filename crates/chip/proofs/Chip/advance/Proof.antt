@@ -1,0 +1,13 @@
+-- `chip::Chip::advance` meets its contract. Assumes nothing.
+use borrow.Author.Needs.{needs}
+use Rattle.chip.proofs.Chip.advance.Statement.{statement}
+use Rattle.chip.proofs.Chip.advance.Tie as tie
+
+advanced-requires : tie.Need-advanced-requires
+advanced-requires c κs = search needs
+
+returns : tie.Need-returns
+returns c = simp (c .advanced .ensures)
+
+pub advance-spec : {M : Type 1} → statement M
+advance-spec = tie.close (tie.spec advanced-requires returns)
