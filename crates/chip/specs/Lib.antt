@@ -1,1 +1,4 @@
 pub mod Chip
+pub mod Pins
+pub mod PowerOn
+pub mod Valid

@@ -1,8 +1,12 @@
 // The chip: a port, which is the memory with the lines, the frame and DATA, and the settings. Each sample of the four lines
 // is taken and answered; each tick moves the settings' counters. All goes by value. Assumes nothing.
 ghost use mathlib.Core.Path.{_≡_};
+ghost use mathlib.Core.List.{map};
+ghost use lib.Bits.{bitAnd};
 ghost use lib.ListN.{getD, set};
-ghost use Rattle.chip.specs.Chip.{memoryAfter, settingsAfter, obeyedAs, moved, stepped, ticked, advanced};
+ghost use Rattle.chip.specs.Chip.{memoryAfter, settingsAfter, obeyedAs, moved, stepped, ticked, advanced, runStart, ran};
+ghost use Rattle.chip.specs.Pins.{pinsShown};
+ghost use Rattle.chip.specs.PowerOn.{freshChip, notStarted, poweredOn};
 use commands::Decoded;
 use frames::Act;
 use frames::Answer;
@@ -34,6 +38,34 @@ pub struct Moved {
 // A chip after a sample, and what the sample was answered.
 pub struct Stepped {
     pub chip: Chip,
+    pub answer: Answer,
+}
+
+// Whether power-on was accepted.
+pub enum Start {
+    On,
+    Refused(Refusal),
+}
+
+// A chip that was powered on; where that was refused, one with zeros for its memory.
+pub struct PoweredOn {
+    pub answer: Start,
+    pub chip: Chip,
+}
+
+// What the pins show: IRQ, BZ and its partner, DATA, and for each address the cells that show, bit c for common c.
+pub struct Pins {
+    pub irq: bool, // low
+    pub bz: bool, // high
+    pub partner: bool, // high
+    pub line: Line,
+    pub cells: [u8; 32],
+}
+
+// A run over samples: the chip after it, how many samples it took, and what the last was answered.
+pub struct Ran {
+    pub chip: Chip,
+    pub count: usize,
     pub answer: Answer,
 }
 
@@ -159,5 +191,104 @@ impl Chip {
         let mut next = self;
         next.settings = settings.advanced(ticks);
         next
+    }
+
+    // What the pins show.
+    pub fn pins(self) -> Pins
+        ensures { λ r. ⌜ r ≡ pinsShown self ⌝ }
+    {
+        let settings = self.settings;
+        let port = self.port;
+        let memory = port.memory;
+        let line = port.line;
+        Pins {
+            irq: pins::irq_low(settings),
+            bz: pins::bz_high(settings),
+            partner: pins::partner_high(settings),
+            line,
+            cells: under_mask(memory, pins::shown_mask(settings)),
+        }
+    }
+
+    // The chip after a run of samples, which ends before the first that is refused.
+    pub fn run(self, samples: &[u8]) -> Ran
+        ensures { λ r. ⌜ r ≡ ran (runStart self) (now (samples .entry)) ⌝ }
+    {
+        let mut chip = self;
+        let mut answer = Answer::Nothing;
+        let mut i: usize = 0;
+        while i < samples.len() {
+            let sample = samples[i];
+            if 15 < sample {
+                return Ran {
+                    chip,
+                    count: i,
+                    answer: Answer::Refused(Refusal::SampleAbove),
+                };
+            }
+            let stepped = chip.step(sample);
+            chip = stepped.chip;
+            answer = stepped.answer;
+            i += 1;
+        }
+        Ran {
+            chip,
+            count: i,
+            answer,
+        }
+    }
+}
+
+// Each nibble under a mask.
+fn under_mask(memory: [u8; 32], mask: u8) -> [u8; 32]
+    ensures { λ r. ⌜ r ≡ map (λ n. bitAnd n mask) memory ⌝ }
+{
+    let mut cells = memory;
+    let mut i: usize = 0;
+    while i < 32 {
+        cells[i] = memory[i] & mask;
+        i += 1;
+    }
+    cells
+}
+
+// A chip that has just been powered on with this memory.
+fn fresh(memory: [u8; 32]) -> Chip
+    ensures { λ r. ⌜ r ≡ freshChip memory ⌝ }
+{
+    Chip {
+        port: Port {
+            memory,
+            levels: frames::levels_of(15),
+            phase: Phase::Idle,
+            line: Line::Released,
+        },
+        settings: Settings::power_on(),
+    }
+}
+
+fn not_started(refusal: Refusal) -> PoweredOn
+    ensures { λ r. ⌜ r ≡ notStarted refusal ⌝ }
+{
+    PoweredOn {
+        answer: Start::Refused(refusal),
+        chip: fresh([0u8; 32]),
+    }
+}
+
+// A chip at power-on, with 32 nibbles for its memory.
+pub fn power_on(memory: &[u8]) -> PoweredOn
+    ensures { λ r. ⌜ r ≡ poweredOn (now (memory .entry)) ⌝ }
+{
+    if memory.len() != 32 {
+        return not_started(Refusal::MemoryCount);
+    }
+    let place = ground::first_above(memory, 15);
+    if place < memory.len() {
+        return not_started(Refusal::NibbleAbove(place));
+    }
+    PoweredOn {
+        answer: Start::On,
+        chip: fresh(ground::first_32(memory)),
     }
 }

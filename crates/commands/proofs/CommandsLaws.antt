@@ -1,14 +1,17 @@
 -- Laws of 01's "Commands". Assumes nothing.
 use mathlib.Core.Path.{_≡_, refl}
-use Prim.Native.Nat.{ℕ, zero, suc, _<_}
+use mathlib.Core.Bool.{_||_}
+use Prim.Native.Nat.{ℕ, zero, suc, _/_, _<_}
 use native.Mathlib.Omega.{arith}
+use lib.Dec.{eqb, ltb}
+use Rattle.ground.proofs.ChoiceLaws.{either}
 use Rattle.commands.specs.declared.Bias.the-variants.{Half, Third}
 use Rattle.commands.specs.declared.Commons.the-variants.{Two, Three, Four}
 use Rattle.commands.specs.declared.Command.{Command}
 use Rattle.commands.specs.declared.Command.the-variants.{SysDis, SysEn, LcdOff, LcdOn, TimerDis, WdtDis, TimerEn, WdtEn, ToneOff, ToneOn, ClrTimer, ClrWdt, Xtal32k, Rc256k, Ext256k, BiasCom, Tone4k, Tone2k, IrqDis, IrqEn, Rate, Test, Normal}
 use Rattle.commands.specs.declared.Decoded.{Decoded}
 use Rattle.commands.specs.declared.Decoded.the-variants.{Undefined, Means}
-use Rattle.commands.specs.Commands.{byteMeaning, codeMeaning, undefined, below}
+use Rattle.commands.specs.Commands.{within, biasBy, commonsBy, byteMeaning, codeMeaning, undefined, below, Proper, ProperMeaning}
 use Rattle.commands.specs.Numbers.{commandNumber}
 
 -- 88 upper bytes are undefined
@@ -20,32 +23,6 @@ undefined-bytes = refl
 pub undefined-codes : below 512 (λ code. undefined (codeMeaning code)) ≡ 176
 unfolding byteMeaning codeMeaning
 undefined-codes = refl
-
--- what a rate is allowed to be
-abbrev pub Proper : Command → Type 0
-Proper SysDis = Unit {0}
-Proper SysEn = Unit {0}
-Proper LcdOff = Unit {0}
-Proper LcdOn = Unit {0}
-Proper TimerDis = Unit {0}
-Proper WdtDis = Unit {0}
-Proper TimerEn = Unit {0}
-Proper WdtEn = Unit {0}
-Proper ToneOff = Unit {0}
-Proper ToneOn = Unit {0}
-Proper ClrTimer = Unit {0}
-Proper ClrWdt = Unit {0}
-Proper Xtal32k = Unit {0}
-Proper Rc256k = Unit {0}
-Proper Ext256k = Unit {0}
-Proper (BiasCom bias commons) = Unit {0}
-Proper Tone4k = Unit {0}
-Proper Tone2k = Unit {0}
-Proper IrqDis = Unit {0}
-Proper IrqEn = Unit {0}
-Proper (Rate r) = r < 8
-Proper Test = Unit {0}
-Proper Normal = Unit {0}
 
 -- the number of a command is a code that means it
 pub number-means : (command : Command) → Proper command → byteMeaning (commandNumber command) ≡ Means command
@@ -86,3 +63,35 @@ number-means (Rate (suc (suc (suc (suc (suc (suc (suc zero)))))))) p = refl
 number-means (Rate (suc (suc (suc (suc (suc (suc (suc (suc r))))))))) p = let no : ⊥ = omega arith in absurd no
 number-means Test p = refl
 number-means Normal p = refl
+
+-- every rate that a code means is one of the eight
+pub byte-proper : (byte : ℕ) → ProperMeaning (byteMeaning byte)
+unfolding byteMeaning
+byte-proper byte =
+    (either ProperMeaning (eqb byte 0x00) tt
+    (either ProperMeaning (eqb byte 0x01) tt
+    (either ProperMeaning (eqb byte 0x02) tt
+    (either ProperMeaning (eqb byte 0x03) tt
+    (either ProperMeaning (eqb byte 0x04) tt
+    (either ProperMeaning (eqb byte 0x05) tt
+    (either ProperMeaning (eqb byte 0x06) tt
+    (either ProperMeaning (eqb byte 0x07) tt
+    (either ProperMeaning (eqb byte 0x08) tt
+    (either ProperMeaning (eqb byte 0x09) tt
+    (either ProperMeaning (within 0x0C 0x0D byte) tt
+    (either ProperMeaning (within 0x0E 0x0F byte) tt
+    (either ProperMeaning (within 0x14 0x17 byte) tt
+    (either ProperMeaning (within 0x18 0x1B byte) tt
+    (either ProperMeaning (within 0x1C 0x1F byte) tt
+    (either ProperMeaning (within 0x20 0x2B byte) tt
+    (either ProperMeaning (within 0x40 0x5F byte) tt
+    (either ProperMeaning (within 0x60 0x7F byte) tt
+    (either ProperMeaning (within 0x80 0x87 byte || within 0x90 0x97 byte) tt
+    (either ProperMeaning (within 0x88 0x8F byte || within 0x98 0x9F byte) tt
+    (either ProperMeaning (within 0xA0 0xBF byte) (omega arith)
+    (either ProperMeaning (eqb byte 0xE0) tt
+    (either ProperMeaning (eqb byte 0xE3) tt tt)))))))))))))))))))))))
+
+pub code-proper : (code : ℕ) → ProperMeaning (codeMeaning code)
+unfolding codeMeaning
+code-proper code = either ProperMeaning (ltb 511 code) tt (byte-proper (code / 2))

@@ -1,5 +1,5 @@
 -- 01 "Commands": what each nine-bit code means. Assumes nothing.
-use Prim.Native.Nat.{ℕ, zero, suc, _+_, _/_, _%_}
+use Prim.Native.Nat.{ℕ, zero, suc, _+_, _/_, _%_, _<_}
 use mathlib.Core.Bool.{Bool, true, false, cond, _&&_, _||_}
 use lib.Dec.{eqb, leb, ltb}
 use Rattle.commands.specs.declared.Bias.{Bias}
@@ -64,3 +64,33 @@ below (suc n) test = cond (test n) 1 0 + below n test
 abbrev pub undefined : Decoded → Bool
 undefined Undefined = true
 undefined (Means command) = false
+
+-- A command that a code can mean: a rate is one of the eight.
+abbrev pub Proper : Command → Type 0
+Proper SysDis = Unit {0}
+Proper SysEn = Unit {0}
+Proper LcdOff = Unit {0}
+Proper LcdOn = Unit {0}
+Proper TimerDis = Unit {0}
+Proper WdtDis = Unit {0}
+Proper TimerEn = Unit {0}
+Proper WdtEn = Unit {0}
+Proper ToneOff = Unit {0}
+Proper ToneOn = Unit {0}
+Proper ClrTimer = Unit {0}
+Proper ClrWdt = Unit {0}
+Proper Xtal32k = Unit {0}
+Proper Rc256k = Unit {0}
+Proper Ext256k = Unit {0}
+Proper (BiasCom bias commons) = Unit {0}
+Proper Tone4k = Unit {0}
+Proper Tone2k = Unit {0}
+Proper IrqDis = Unit {0}
+Proper IrqEn = Unit {0}
+Proper (Rate r) = r < 8
+Proper Test = Unit {0}
+Proper Normal = Unit {0}
+
+abbrev pub ProperMeaning : Decoded → Type 0
+ProperMeaning Undefined = Unit {0}
+ProperMeaning (Means command) = Proper command

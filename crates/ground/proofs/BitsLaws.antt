@@ -1,13 +1,24 @@
 -- Laws of bits. Assumes nothing.
-use mathlib.Core.Path.{_≡_}
+use mathlib.Core.Path.{_≡_, refl}
 use mathlib.Core.Bool.{false}
-use Prim.Native.Nat.{ℕ, _/_, _^_, _≤_, _<_}
-use native.Mathlib.Nat.{div-eq-of-lt, lt-of-lt-of-le}
+use Prim.Native.Nat.{ℕ, zero, suc, _/_, _%_, _^_, _≤_, _<_}
+use native.Mathlib.Nat.{div-eq-of-lt, lt-of-lt-of-le, mod-lt}
+use native.Mathlib.Omega.{arith}
+use lib.Dec.{eqb}
 use lib.Pow.{pow-mono}
-use Rattle.ground.specs.Bits.{bitAt}
+use Rattle.ground.specs.Bits.{bitNumber, bitAt}
 
 -- a byte has no bit above the seventh
 pub bitAt-past : (i n : ℕ) → n < 256 → 8 ≤ i → bitAt i n ≡ false
 bitAt-past i n small past =
     let none : n / 2 ^ i ≡ 0 = div-eq-of-lt (lt-of-lt-of-le small (pow-mono past)) in
     simp none
+
+-- a bit as a number is what its place leaves
+pub bitNumber-bitAt : (i n : ℕ) → bitNumber (bitAt i n) ≡ n / 2 ^ i % 2
+bitNumber-bitAt i n = by (n / 2 ^ i % 2) (mod-lt (n / 2 ^ i) (omega arith))
+  where
+    by : (x : ℕ) → x < 2 → bitNumber (eqb x 1) ≡ x
+    by zero h = refl
+    by (suc zero) h = refl
+    by (suc (suc x)) h = let no : ⊥ = omega arith in absurd no

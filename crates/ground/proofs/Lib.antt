@@ -1,3 +1,5 @@
 pub mod BitsLaws
+pub mod ChoiceLaws
 pub mod Determined
+pub mod PlacesLaws
 pub mod WrittenLaws

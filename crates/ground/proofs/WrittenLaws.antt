@@ -1,12 +1,13 @@
 -- Laws of bytes written over a buffer. Assumes nothing.
 use mathlib.Core.Path.{_≡_, ap, sym, _∙_}
-use mathlib.Core.List.{List, [], _∷_, _++_, append-assoc}
+use mathlib.Core.List.{List, [], _∷_, _++_, append-assoc, append-nil}
 use Prim.Native.Nat.{ℕ, suc, _+_, _≤_, _<_}
 use native.Mathlib.Omega.{arith}
+use native.Mathlib.Nat.{zero-add}
 use native.Mathlib.Numerals.{add-one}
-use lib.ListN.{length, take, drop, set, length-append}
-use lib.Seq.{paste, length-paste, take-paste, drop-paste, take-length, set-split, append-snoc, drop-drop}
-use Rattle.ground.specs.Written.{over, Wrote}
+use lib.ListN.{length, take, drop, getD, set, replicate, length-append, drop-of-length-le}
+use lib.Seq.{paste, paste-suc, take-all, length-paste, take-paste, drop-paste, take-length, set-split, append-snoc, drop-drop}
+use Rattle.ground.specs.Written.{over, Wrote, first32}
 
 pub over-paste : (buffer bytes : List ℕ) (at : ℕ) → paste buffer at bytes (length bytes) ≡ over buffer at bytes
 over-paste buffer bytes at = ap (λ (t : List ℕ). take at buffer ++ t ++ drop (at + length bytes) buffer) (take-length bytes)
@@ -55,3 +56,21 @@ wrote-then {a} {b} {c} first second {at} {k} {m} p q h =
       cursor = omega (arith, length-append first second);
       buffer = q .buffer ∙ rw (p .buffer, p .cursor) (over-over a first second at h);
     }
+
+-- one entry more of a list that fills a buffer from its start
+pub paste-next : (buffer bytes now : List ℕ) (i : ℕ) → now ≡ paste buffer 0 bytes i → i < length buffer → i < length bytes
+    → set now i (getD bytes i 0) ≡ paste buffer 0 bytes (i + 1)
+paste-next buffer bytes now i e room more =
+    ap (λ (n : ℕ). set now n (getD bytes i 0)) (sym (zero-add i))
+    ∙ ap (λ (l : List ℕ). set l (0 + i) (getD bytes i 0)) e
+    ∙ paste-suc buffer 0 bytes i 0 (omega arith) more
+    ∙ ap (paste buffer 0 bytes) (sym (add-one i))
+
+-- a list as long as the buffer fills it
+pub paste-whole : (buffer bytes : List ℕ) (i : ℕ) → length buffer ≤ i → length bytes ≤ i → paste buffer 0 bytes i ≡ bytes
+paste-whole buffer bytes i full all =
+    rw (take-all i bytes all, zero-add, drop-of-length-le buffer full) (append-nil bytes)
+
+-- 32 values are their own first 32
+pub first32-all : (values : List ℕ) → length values ≡ 32 → first32 values ≡ values
+first32-all values e = rw e (paste-whole (replicate 32 0) values 32 (omega arith) (omega arith))

@@ -1,6 +1,9 @@
 // What every crate above shares: the refusals of 01 and their numbers; what it means that a contract determines its
 // result; bits and bytes written over a buffer; and how one computed test becomes a law. Assumes nothing.
 ghost use mathlib.Core.Path.{_≡_};
+ghost use lib.Dec.{ltb};
+ghost use Rattle.ground.specs.Places.{lowest};
+ghost use Rattle.ground.specs.Written.{first32};
 ghost use Rattle.ground.specs.Refusals.{refusalNumber, refusalPlace};
 
 // Why a call was refused. A place is the lowest index at fault.
@@ -63,4 +66,31 @@ impl Refusal {
             Refusal::MemoryCount => 0,
         }
     }
+}
+
+// The lowest place of a value above a limit; the number of values where there is none.
+pub fn first_above(values: &[u8], limit: u8) -> usize
+    ensures { λ r. ⌜ r ≡ lowest (ltb limit) (now (values .entry)) ⌝ }
+{
+    let mut i: usize = 0;
+    while i < values.len() {
+        if limit < values[i] {
+            return i;
+        }
+        i += 1;
+    }
+    i
+}
+
+// The first 32 of some values, with zeros where there are fewer.
+pub fn first_32(values: &[u8]) -> [u8; 32]
+    ensures { λ r. ⌜ r ≡ first32 (now (values .entry)) ⌝ }
+{
+    let mut kept = [0u8; 32];
+    let mut i: usize = 0;
+    while i < 32 && i < values.len() {
+        kept[i] = values[i];
+        i += 1;
+    }
+    kept
 }

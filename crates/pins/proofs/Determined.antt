@@ -10,6 +10,8 @@ use Rattle.pins.proofs.partner_high.Kinds as partner-high-kinds
 use Rattle.pins.proofs.partner_high.Reads as partner-high-reads
 use Rattle.pins.proofs.cell_shows.Kinds as cell-shows-kinds
 use Rattle.pins.proofs.cell_shows.Reads as cell-shows-reads
+use Rattle.pins.proofs.shown_mask.Kinds as shown-mask-kinds
+use Rattle.pins.proofs.shown_mask.Reads as shown-mask-reads
 
 pub irq-low-determined : Determined 0 irq-low-kinds.ps irq-low-kinds.r irq-low-reads.Post
 irq-low-determined κs args x y end end' p q = p ∙ sym q
@@ -22,3 +24,6 @@ partner-high-determined κs args x y end end' p q = p ∙ sym q
 
 pub cell-shows-determined : Determined 0 cell-shows-kinds.ps cell-shows-kinds.r cell-shows-reads.Post
 cell-shows-determined κs args x y end end' p q = p ∙ sym q
+
+pub shown-mask-determined : Determined 0 shown-mask-kinds.ps shown-mask-kinds.r shown-mask-reads.Post
+shown-mask-determined κs args x y end end' p q = p ∙ sym q

@@ -1,5 +1,5 @@
 -- 01 "Ticks", its pins: IRQ, BZ and its partner, and whether a cell shows. Assumes nothing.
-use Prim.Native.Nat.{ℕ, _%_}
+use Prim.Native.Nat.{ℕ, _+_, _*_, _%_}
 use mathlib.Core.Bool.{Bool, true, false, not, _&&_}
 use lib.Dec.{leb, ltb}
 use Rattle.clock.specs.declared.Timer.{Timer}
@@ -8,6 +8,7 @@ use Rattle.rules.specs.declared.IrqSource.the-variants.{Neither, TimeBase, Flag
 use Rattle.rules.specs.declared.Pitch.{Pitch}
 use Rattle.rules.specs.declared.Pitch.the-variants.{FourK, TwoK}
 use Rattle.rules.specs.declared.Settings.{Settings}
+use Rattle.ground.specs.Bits.{bitNumber, bitAt}
 use Rattle.commands.specs.Numbers.{commonsNumber}
 use Rattle.rules.specs.Ticks.{running}
 
@@ -41,3 +42,10 @@ partnerHigh s = sounding s && not (wave (s .tone .pitch) (s .counters .toner .co
 -- bit is 1.
 unfoldable pub shows : Settings → ℕ → Bool → Bool
 shows s c bit = running s && s .lcd .on && ltb c (commonsNumber (s .lcd .commons)) && bit
+
+-- The cells of one address that show, as a nibble: bit c is common c's.
+abbrev pub shownBit : Settings → ℕ → ℕ → ℕ
+shownBit s nibble c = bitNumber (shows s c (bitAt c nibble))
+
+unfoldable pub shownNibble : Settings → ℕ → ℕ
+shownNibble s nibble = shownBit s nibble 0 + 2 * shownBit s nibble 1 + 4 * shownBit s nibble 2 + 8 * shownBit s nibble 3

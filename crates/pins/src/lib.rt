@@ -1,8 +1,9 @@
 // What the pins show of the settings, as far as it needs no memory: IRQ, BZ and its partner, and whether a cell shows.
 // Assumes nothing.
 ghost use mathlib.Core.Path.{_≡_};
-ghost use Rattle.pins.specs.Pins.{asserted, wave, sounding, irqLow, bzHigh, partnerHigh, shows};
+ghost use Rattle.pins.specs.Pins.{asserted, wave, sounding, irqLow, bzHigh, partnerHigh, shows, shownNibble};
 use clock::Timer;
+use commands::Commons;
 use rules::IrqSource;
 use rules::Pitch;
 use rules::Settings;
@@ -88,4 +89,24 @@ pub fn cell_shows(settings: Settings, common: u8, bit: bool) -> bool
         return false;
     }
     bit // of the memory
+}
+
+// The cells of an address that would show with all four bits set: whatever stands there, the cells that show are its
+// bits under this mask.
+pub fn shown_mask(settings: Settings) -> u8
+    ensures { λ r. ⌜ r ≡ shownNibble settings 15 ⌝ }
+{
+    if !settings.running() {
+        return 0;
+    }
+    let lcd = settings.lcd;
+    if !lcd.on {
+        return 0;
+    }
+    let commons = lcd.commons;
+    match commons {
+        Commons::Two => 3,
+        Commons::Three => 7,
+        Commons::Four => 15,
+    }
 }

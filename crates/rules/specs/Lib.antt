@@ -2,3 +2,4 @@ pub mod Effects
 pub mod Numbers
 pub mod Settings
 pub mod Ticks
+pub mod Valid

@@ -1,0 +1,39 @@
+-- Each public contract of this crate determines its result: it is an equation, and both results meet it.
+-- Assumes nothing.
+use mathlib.Core.Path.{_∙_, sym}
+use Rattle.ground.specs.Determined.{Determined}
+use Rattle.chip.proofs.Port.moved.Kinds as moved-kinds
+use Rattle.chip.proofs.Port.moved.Reads as moved-reads
+use Rattle.chip.proofs.Chip.step.Kinds as step-kinds
+use Rattle.chip.proofs.Chip.step.Reads as step-reads
+use Rattle.chip.proofs.Chip.tick.Kinds as tick-kinds
+use Rattle.chip.proofs.Chip.tick.Reads as tick-reads
+use Rattle.chip.proofs.Chip.advance.Kinds as advance-kinds
+use Rattle.chip.proofs.Chip.advance.Reads as advance-reads
+use Rattle.chip.proofs.Chip.pins.Kinds as pins-kinds
+use Rattle.chip.proofs.Chip.pins.Reads as pins-reads
+use Rattle.chip.proofs.Chip.run.Kinds as run-kinds
+use Rattle.chip.proofs.Chip.run.Reads as run-reads
+use Rattle.chip.proofs.power_on.Kinds as power-on-kinds
+use Rattle.chip.proofs.power_on.Reads as power-on-reads
+
+pub moved-determined : Determined 0 moved-kinds.ps moved-kinds.r moved-reads.Post
+moved-determined κs args x y end end' p q = p ∙ sym q
+
+pub step-determined : Determined 0 step-kinds.ps step-kinds.r step-reads.Post
+step-determined κs args x y end end' p q = p ∙ sym q
+
+pub tick-determined : Determined 0 tick-kinds.ps tick-kinds.r tick-reads.Post
+tick-determined κs args x y end end' p q = p ∙ sym q
+
+pub advance-determined : Determined 0 advance-kinds.ps advance-kinds.r advance-reads.Post
+advance-determined κs args x y end end' p q = p ∙ sym q
+
+pub pins-determined : Determined 0 pins-kinds.ps pins-kinds.r pins-reads.Post
+pins-determined κs args x y end end' p q = p ∙ sym q
+
+pub run-determined : Determined 1 run-kinds.ps run-kinds.r run-reads.Post
+run-determined κs args x y end end' p q = p ∙ sym q
+
+pub power-on-determined : Determined 1 power-on-kinds.ps power-on-kinds.r power-on-reads.Post
+power-on-determined κs args x y end end' p q = p ∙ sym q

@@ -1,0 +1,3 @@
+pub mod Determined
+pub mod RunLaws
+pub mod ValidLaws

@@ -1,0 +1,16 @@
+-- `chip::fresh` meets its contract. Assumes nothing.
+use borrow.Author.Needs.{needs}
+use Rattle.chip.proofs.fresh.Statement.{statement}
+use Rattle.chip.proofs.fresh.Tie as tie
+
+levels-of-requires : tie.Need-levels-of-requires
+levels-of-requires c κs = search needs
+
+power-on-requires : tie.Need-power-on-requires
+power-on-requires c κs = search needs
+
+returns : tie.Need-returns
+returns c = simp (c .power-on .ensures, c .before .levels-of .ensures)
+
+pub fresh-spec : {M : Type 1} → statement M
+fresh-spec = tie.close (tie.spec levels-of-requires power-on-requires returns)

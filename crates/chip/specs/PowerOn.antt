@@ -1,0 +1,43 @@
+-- 01 "Commands", its power-on, of the whole chip; and its refusals in "Driver streams". Assumes nothing.
+use Prim.Native.Nat.{ℕ}
+use mathlib.Core.Bool.{cond}
+use mathlib.Core.List.{List}
+use lib.Dec.{eqb, ltb}
+use lib.ListN.{length, replicate}
+use Rattle.ground.specs.declared.Refusal.{Refusal}
+use Rattle.ground.specs.declared.Refusal.the-variants.{NibbleAbove, MemoryCount}
+use Rattle.ground.specs.Places.{lowest, somewhere}
+use Rattle.ground.specs.Refusals.{refusalNumber}
+use Rattle.rules.specs.Effects.{powerOn}
+use Rattle.frames.specs.declared.Phase.the-variants.{Idle}
+use Rattle.frames.specs.declared.Line.the-variants.{Released}
+use Rattle.frames.specs.Samples.{levels}
+use Rattle.chip.specs.declared.Chip.{Chip}
+use Rattle.chip.specs.declared.Start.{Start}
+use Rattle.chip.specs.declared.Start.the-variants.{On, Refused}
+use Rattle.chip.specs.declared.PoweredOn.{PoweredOn}
+
+-- The paper's number for an answer: 0 where the chip is on, else the refusal's.
+abbrev pub startNumber : Start → ℕ
+startNumber On = 0
+startNumber (Refused refusal) = refusalNumber refusal
+
+-- The caller's memory, the settings of power-on, all lines high, no frame, and DATA released.
+abbrev pub freshChip : List ℕ → Chip
+freshChip memory =
+    record {
+      port = record { memory = memory; levels = levels 15; phase = Idle; line = Released };
+      settings = powerOn;
+    }
+
+-- A refused power-on hands out a chip with an empty memory.
+abbrev pub notStarted : Refusal → PoweredOn
+notStarted refusal = record { answer = Refused refusal; chip = freshChip (replicate 32 0) }
+
+-- 29 where the memory is not 32 values; then 23 at the lowest value above 15.
+unfoldable pub poweredOn : List ℕ → PoweredOn
+poweredOn memory =
+    cond (eqb (length memory) 32)
+    (cond (somewhere (ltb 15) memory) (notStarted (NibbleAbove (lowest (ltb 15) memory)))
+    (record { answer = On; chip = freshChip memory }))
+    (notStarted MemoryCount)

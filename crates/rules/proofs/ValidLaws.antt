@@ -1,0 +1,74 @@
+-- Power-on gives valid settings, and commands and ticks keep them so. Assumes nothing.
+use mathlib.Core.Path.{_≡_}
+use Prim.Native.Nat.{ℕ, zero, suc}
+use native.Mathlib.Omega.{arith}
+use Rattle.ground.proofs.ChoiceLaws.{either}
+use Rattle.clock.specs.declared.Source.{Source}
+use Rattle.clock.specs.declared.Source.the-variants.{Xtal, Rc, Ext}
+use Rattle.clock.specs.declared.Timer.{Timer}
+use Rattle.clock.specs.Valid.{TimerValid, CountersValid}
+use Rattle.clock.proofs.ValidLaws.{countersTicked-valid, timerCleared-valid, watchdogCleared-valid}
+use Rattle.commands.specs.declared.Command.{Command}
+use Rattle.commands.specs.declared.Command.the-variants.{SysDis, SysEn, LcdOff, LcdOn, TimerDis, WdtDis, TimerEn, WdtEn, ToneOff, ToneOn, ClrTimer, ClrWdt, Xtal32k, Rc256k, Ext256k, BiasCom, Tone4k, Tone2k, IrqDis, IrqEn, Rate, Test, Normal}
+use Rattle.commands.specs.Commands.{Proper}
+use Rattle.rules.specs.declared.Settings.{Settings}
+use Rattle.rules.specs.Effects.{systemOff, effect, powerOn}
+use Rattle.rules.specs.Ticks.{running, ticked, advanced}
+use Rattle.rules.specs.Valid.{SettingsValid}
+
+pub powerOn-valid : SettingsValid powerOn
+powerOn-valid = (
+  omega arith,
+  record {
+    prescaler = omega arith;
+    toner = omega arith;
+    timer = record { divider = omega arith; base = omega arith; watchdog = omega arith };
+  },
+)
+
+systemOff-valid : (source : Source) (s : Settings) → SettingsValid s → SettingsValid (systemOff source s)
+systemOff-valid Xtal s v = v
+systemOff-valid Rc s v = v
+systemOff-valid Ext s v = v
+
+-- the counters with another timer
+with-timer : (s : Settings) → SettingsValid s → {t : Timer} → TimerValid t → CountersValid (record { prescaler = s .counters .prescaler; toner = s .counters .toner; timer = t })
+with-timer s v w = record { prescaler = v .1 .prescaler; toner = v .1 .toner; timer = w }
+
+pub effect-valid : (command : Command) → Proper command → (s : Settings) → SettingsValid s → SettingsValid (effect command s)
+unfolding effect
+effect-valid SysDis p s v = systemOff-valid (s .system .source) s v
+effect-valid SysEn p s v = v
+effect-valid LcdOff p s v = v
+effect-valid LcdOn p s v = v
+effect-valid TimerDis p s v = v
+effect-valid WdtDis p s v = v
+effect-valid TimerEn p s v = v
+effect-valid WdtEn p s v = v
+effect-valid ToneOff p s v = v
+effect-valid ToneOn p s v = v
+effect-valid ClrTimer p s v = (v .0, with-timer s v (timerCleared-valid (s .counters .timer) (v .1 .timer)))
+effect-valid ClrWdt p s v = (v .0, with-timer s v (watchdogCleared-valid (s .counters .timer)))
+effect-valid Xtal32k p s v = v
+effect-valid Rc256k p s v = v
+effect-valid Ext256k p s v = v
+effect-valid (BiasCom bias commons) p s v = v
+effect-valid Tone4k p s v = v
+effect-valid Tone2k p s v = v
+effect-valid IrqDis p s v = v
+effect-valid IrqEn p s v = v
+effect-valid (Rate r) p s v = (omega arith, v .1)
+effect-valid Test p s v = v
+effect-valid Normal p s v = v
+
+pub ticked-valid : (s : Settings) → SettingsValid s → SettingsValid (ticked s)
+unfolding ticked
+ticked-valid s v =
+    either SettingsValid (running s)
+    (v .0, countersTicked-valid (s .system .source) (s .base .on) (s .base .rate) (s .counters) (v .1))
+    v
+
+pub advanced-valid : (n : ℕ) (s : Settings) → SettingsValid s → SettingsValid (advanced n s)
+unfolding advanced
+advanced-valid zero s v = v
+advanced-valid (suc n) s v = advanced-valid n (ticked s) (ticked-valid s v)
