@@ -180,7 +180,7 @@ impl Chip {
         let settings = self.settings;
         let mut next = self;
         next.settings = settings.ticked();
-        next
+        next // a tick later
     }
 
     // The chip after `ticks` single ticks.
@@ -190,7 +190,7 @@ impl Chip {
         let settings = self.settings;
         let mut next = self;
         next.settings = settings.advanced(ticks);
-        next
+        next // all ticks later
     }
 
     // What the pins show.

@@ -230,7 +230,7 @@ fn collect(phase: Phase) -> Framed
 {
     Framed {
         phase,
-        line: Line::Released,
+        line: Line::Released, // by the bit that is taken
         answer: Answer::Taken,
     }
 }
@@ -241,7 +241,7 @@ fn stray_in(phase: Phase, line: Line) -> Framed
 {
     Framed {
         phase,
-        line,
+        line, // as it stands
         answer: Answer::Stray,
     }
 }
