@@ -1,0 +1,4 @@
+pub mod Ports
+pub mod StreamLevels
+pub mod TraceLaws
+pub mod WriteLaws

@@ -1,0 +1,88 @@
+-- A port runs by itself: ticks and settings do not reach it. So events over samples below 16 come to a run of the port
+-- over levels. Assumes nothing.
+use mathlib.Core.Path.{_≡_, _∙_, refl, sym, ap}
+use mathlib.Core.Bool.{Bool, true, false, cond, not, _&&_}
+use mathlib.Core.List.{List, [], _∷_, _++_, map}
+use Prim.Native.Nat.{ℕ, zero, suc, _≤_, _<_}
+use native.Mathlib.Omega.{arith}
+use lib.Dec.{eqb, ltb}
+use borrow.Author.Tests.{le-ltb}
+use Rattle.frames.specs.declared.Levels.{Levels}
+use Rattle.frames.specs.declared.Phase.the-variants.{Idle}
+use Rattle.frames.specs.declared.Line.the-variants.{Released}
+use Rattle.frames.specs.declared.Edge.the-variants.{Rests, Closes}
+use Rattle.frames.specs.declared.Answer.{Answer}
+use Rattle.frames.specs.declared.Answer.the-variants.{Nothing, Closed, Dropped}
+use Rattle.frames.specs.declared.Act.{Act}
+use Rattle.frames.specs.declared.Act.the-variants.{Keep, Store, Obey}
+use Rattle.frames.specs.Samples.{levels}
+use Rattle.frames.specs.Frames.{frame, closed}
+use Rattle.frames.specs.Answers.{act, unfinished}
+use Rattle.rules.specs.declared.Settings.{Settings}
+use Rattle.rules.specs.Ticks.{advanced}
+use Rattle.chip.specs.declared.Port.{Port}
+use Rattle.chip.specs.declared.Chip.{Chip}
+use Rattle.chip.specs.Chip.{memoryAfter, settingsAfter, framedBy, moved, stepped}
+use Rattle.demands.specs.Events.{Event, sample, tick, happened, after, samples, ticks, answers, dataNumber, notes}
+
+-- every sample is one of the sixteen
+abbrev pub Sixteen : List ℕ → Type 0
+Sixteen [] = Unit {0}
+Sixteen (s ∷ ss) = (s ≤ 15) × Sixteen ss
+
+-- the port after levels, what each was answered, and what the host notes
+abbrev pub runP : Port → List Levels → Port
+runP p [] = p
+runP p (l ∷ ls) = runP (moved p l .port) ls
+
+abbrev pub trace : Port → List Levels → List Answer
+trace p [] = []
+trace p (l ∷ ls) = moved p l .answer ∷ trace (moved p l .port) ls
+
+stepped-moved : (c : Chip) (s : ℕ) → s ≤ 15 → stepped c s .chip .port ≡ moved (c .port) (levels s) .port
+unfolding stepped
+stepped-moved c s h = simp (le-ltb _ _ h)
+
+stepped-answer : (c : Chip) (s : ℕ) → s ≤ 15 → stepped c s .answer ≡ moved (c .port) (levels s) .answer
+unfolding stepped
+stepped-answer c s h = simp (le-ltb _ _ h)
+
+pub after-port : (c : Chip) (es : List Event) → Sixteen (samples es) → after c es .port ≡ runP (c .port) (map levels (samples es))
+after-port c [] v = refl
+after-port c (tick ∷ es) v = after-port (happened c tick) es v
+after-port c (sample s ∷ es) v =
+    after-port (happened c (sample s)) es (v .1)
+    ∙ ap (λ (p : Port). runP p (map levels (samples es))) (stepped-moved c s (v .0))
+
+pub after-answers : (c : Chip) (es : List Event) → Sixteen (samples es) → answers c es ≡ trace (c .port) (map levels (samples es))
+after-answers c [] v = refl
+after-answers c (tick ∷ es) v = after-answers (happened c tick) es v
+after-answers c (sample s ∷ es) v =
+    simp (stepped-answer c s (v .0), after-answers (happened c (sample s)) es (v .1), stepped-moved c s (v .0))
+
+-- ---- a sample with CS high, from any port
+
+-- the port with no frame
+abbrev pub idle : List ℕ → Levels → Port
+idle m l = record { memory = m; levels = l; phase = Idle; line = Released }
+
+abbrev pub high : Levels
+high = record { cs = true; wr = true; rd = true; bit = true }
+
+-- no answer to it acts
+closing-act : (before done : Bool) → act (cond before Nothing (cond done Closed Dropped)) ≡ Keep
+closing-act true done = refl
+closing-act false true = refl
+closing-act false false = refl
+
+module _ (p : Port) where
+  by-before : (before : Bool) (n : ℕ)
+      → frame (cond before Rests Closes) n (p .phase) (p .line)
+      ≡ record { phase = Idle; line = Released; answer = cond before Nothing (cond (eqb (unfinished (p .phase)) 0) Closed Dropped) }
+  unfolding frame closed
+  by-before true n = refl
+  by-before false n = refl
+
+  pub high-idles : moved p high .port ≡ idle (p .memory) high
+  unfolding moved framedBy memoryAfter
+  high-idles = simp (by-before (p .levels .cs), closing-act)

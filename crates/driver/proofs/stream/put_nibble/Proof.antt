@@ -1,0 +1,41 @@
+-- `driver::stream::put_nibble` meets its contract: four bits, one after another. Assumes nothing.
+use native.Mathlib.Omega.{arith}
+use Rattle.driver.proofs.Writing.{wrote-four}
+use borrow.Author.Needs.{needs}
+use Rattle.driver.proofs.stream.put_nibble.Statement.{statement}
+use Rattle.driver.proofs.stream.put_nibble.Tie as tie
+
+put-bit-requires : tie.Need-put-bit-requires
+put-bit-requires c κs = search needs
+
+put-bit-requires-2 : tie.Need-put-bit-requires-2
+put-bit-requires-2 c κs = search needs
+
+put-bit-requires-3 : tie.Need-put-bit-requires-3
+put-bit-requires-3 c κs = search needs
+
+put-bit-requires-4 : tie.Need-put-bit-requires-4
+put-bit-requires-4 c κs = search needs
+
+same-length : tie.Need-same-length
+same-length c = search needs
+
+returns : tie.Need-returns
+returns c =
+    wrote-four
+    (c .before .before .before .before .before .before .before .before .before .before .before .before .before .before .put-bit .ensures)
+    (c .before .before .before .before .before .before .before .before .before .before .put-bit2 .ensures)
+    (c .before .before .before .before .before .before .put-bit3 .ensures)
+    (c .before .before .put-bit4 .ensures)
+    (omega arith)
+
+pub put-nibble-spec : {M : Type 1} → statement M
+put-nibble-spec =
+    tie.close
+    (tie.spec
+    put-bit-requires
+    put-bit-requires-2
+    put-bit-requires-3
+    put-bit-requires-4
+    same-length
+    returns)

@@ -1,0 +1,41 @@
+-- `driver::stream::put_read_nibble` meets its contract: four bits, one after another. Assumes nothing.
+use native.Mathlib.Omega.{arith}
+use Rattle.driver.proofs.Writing.{wrote-four}
+use borrow.Author.Needs.{needs}
+use Rattle.driver.proofs.stream.put_read_nibble.Statement.{statement}
+use Rattle.driver.proofs.stream.put_read_nibble.Tie as tie
+
+put-pair-requires : tie.Need-put-pair-requires
+put-pair-requires c κs = search needs
+
+put-pair-requires-2 : tie.Need-put-pair-requires-2
+put-pair-requires-2 c κs = search needs
+
+put-pair-requires-3 : tie.Need-put-pair-requires-3
+put-pair-requires-3 c κs = search needs
+
+put-pair-requires-4 : tie.Need-put-pair-requires-4
+put-pair-requires-4 c κs = search needs
+
+same-length : tie.Need-same-length
+same-length c = search needs
+
+returns : tie.Need-returns
+returns c =
+    wrote-four
+    (c .before .before .before .before .before .before .before .before .before .before .before .before .before .before .put-pair .ensures)
+    (c .before .before .before .before .before .before .before .before .before .before .put-pair2 .ensures)
+    (c .before .before .before .before .before .before .put-pair3 .ensures)
+    (c .before .before .put-pair4 .ensures)
+    (omega arith)
+
+pub put-read-nibble-spec : {M : Type 1} → statement M
+put-read-nibble-spec =
+    tie.close
+    (tie.spec
+    put-pair-requires
+    put-pair-requires-2
+    put-pair-requires-3
+    put-pair-requires-4
+    same-length
+    returns)

@@ -1,0 +1,44 @@
+-- `driver::stream::put_three` meets its contract: three bits, one after another. Assumes nothing.
+use native.Mathlib.Omega.{arith}
+use Rattle.driver.proofs.Writing.{wrote-three}
+use borrow.Author.Needs.{needs}
+use Rattle.driver.proofs.stream.put_three.Statement.{statement}
+use Rattle.driver.proofs.stream.put_three.Tie as tie
+
+mul-put-bit : tie.Need-mul-put-bit
+mul-put-bit c = search needs
+
+put-bit-requires : tie.Need-put-bit-requires
+put-bit-requires c κs = search needs
+
+mul-put-bit-2 : tie.Need-mul-put-bit-2
+mul-put-bit-2 c = search needs
+
+put-bit-requires-2 : tie.Need-put-bit-requires-2
+put-bit-requires-2 c κs = search needs
+
+put-bit-requires-3 : tie.Need-put-bit-requires-3
+put-bit-requires-3 c κs = search needs
+
+same-length : tie.Need-same-length
+same-length c = search needs
+
+returns : tie.Need-returns
+returns c =
+    wrote-three
+    (c .before .before .before .before .before .before .before .before .before .before .put-bit .ensures)
+    (c .before .before .before .before .before .before .put-bit2 .ensures)
+    (c .before .before .put-bit3 .ensures)
+    (omega arith)
+
+pub put-three-spec : {M : Type 1} → statement M
+put-three-spec =
+    tie.close
+    (tie.spec
+    mul-put-bit
+    put-bit-requires
+    mul-put-bit-2
+    put-bit-requires-2
+    put-bit-requires-3
+    same-length
+    returns)

@@ -1,0 +1,108 @@
+// The host's side of an HT1621: sample streams for writes, reads and commands, and the meaning of what a read noted.
+// Every call is answered: with the number of bytes that it wrote at the start of the buffer lent, or with the reason
+// why it wrote none. Assumes nothing.
+ghost use mathlib.Core.Path.{_≡_};
+ghost use lib.ListN.{length};
+ghost use Rattle.driver.specs.Streams.{writeStream, readStream, commandStream, decoded};
+ghost use Rattle.driver.specs.Refusals.{Does, writeAnswer, readAnswer, commandAnswer, decodeAnswer};
+
+mod notes; // notes.rt: noted bits made nibbles
+mod stream; // stream.rt: streams written into a buffer
+mod faults; // faults.rt: what a call is refused for
+
+use ground::Refusal;
+
+// What a call comes to: the number of bytes written, or why nothing was.
+pub enum Answer {
+    Written(usize),
+    Refused(Refusal),
+}
+
+// The stream that writes nibbles from an address on.
+pub fn write(first: usize, nibbles: &[u8], out: &mut [u8]) -> Answer
+    ensures { λ r. ⌜ Does
+        (writeAnswer first (now (nibbles .entry)) (length (now (out .entry))))
+        (writeStream first (now (nibbles .entry)))
+        (now (out .entry)) r (now (out .exit)) ⌝ }
+{
+    if nibbles.len() == 0 {
+        return Answer::Refused(Refusal::NothingAsked);
+    }
+    if faults::outside(first, nibbles.len()) {
+        return Answer::Refused(Refusal::OutOfRange);
+    }
+    let place = ground::first_above(nibbles, 15);
+    if place < nibbles.len() {
+        return Answer::Refused(Refusal::NibbleAbove(place));
+    }
+    if out.len() < 21 + 8 * nibbles.len() {
+        return Answer::Refused(Refusal::OutputShort);
+    }
+    let sent = stream::whole_write(out, first as u8, nibbles);
+    Answer::Written(sent)
+}
+
+// The stream that reads nibbles from an address on.
+pub fn read(first: usize, count: usize, out: &mut [u8]) -> Answer
+    ensures { λ r. ⌜ Does
+        (readAnswer first count (length (now (out .entry))))
+        (readStream first count)
+        (now (out .entry)) r (now (out .exit)) ⌝ }
+{
+    if count == 0 {
+        return Answer::Refused(Refusal::NothingAsked);
+    }
+    if faults::outside(first, count) {
+        return Answer::Refused(Refusal::OutOfRange);
+    }
+    if out.len() < 21 + 8 * count {
+        return Answer::Refused(Refusal::OutputShort);
+    }
+    let asked = stream::whole_read(out, first as u8, count);
+    Answer::Written(asked)
+}
+
+// The stream that gives commands, each by the byte of its upper eight bits.
+pub fn commands(codes: &[u8], out: &mut [u8]) -> Answer
+    ensures { λ r. ⌜ Does
+        (commandAnswer (now (codes .entry)) (length (now (out .entry))))
+        (commandStream (now (codes .entry)))
+        (now (out .entry)) r (now (out .exit)) ⌝ }
+{
+    if codes.len() == 0 {
+        return Answer::Refused(Refusal::NothingAsked);
+    }
+    if 32 < codes.len() {
+        return Answer::Refused(Refusal::OutOfRange);
+    }
+    let place = faults::first_undefined(codes);
+    if place < codes.len() {
+        return Answer::Refused(Refusal::UndefinedCommand(place));
+    }
+    if out.len() < 9 + 18 * codes.len() {
+        return Answer::Refused(Refusal::OutputShort);
+    }
+    let given = stream::whole_commands(out, codes);
+    Answer::Written(given)
+}
+
+// The nibbles that a read noted: four noted bits, D0 first, make one.
+pub fn decode(noted: &[u8], out: &mut [u8]) -> Answer
+    ensures { λ r. ⌜ Does
+        (decodeAnswer (now (noted .entry)) (length (now (out .entry))))
+        (decoded (now (noted .entry)))
+        (now (out .entry)) r (now (out .exit)) ⌝ }
+{
+    if faults::miscounts(noted.len()) {
+        return Answer::Refused(Refusal::NotedCount);
+    }
+    let place = ground::first_above(noted, 1);
+    if place < noted.len() {
+        return Answer::Refused(Refusal::NotedAbove(place));
+    }
+    if out.len() < noted.len() / 4 {
+        return Answer::Refused(Refusal::OutputShort);
+    }
+    let made = notes::put_decoded(out, noted);
+    Answer::Written(made)
+}
