@@ -39,7 +39,7 @@ abbrev pub trace : Port → List Levels → List Answer
 trace p [] = []
 trace p (l ∷ ls) = moved p l .answer ∷ trace (moved p l .port) ls
 
-stepped-moved : (c : Chip) (s : ℕ) → s ≤ 15 → stepped c s .chip .port ≡ moved (c .port) (levels s) .port
+pub stepped-moved : (c : Chip) (s : ℕ) → s ≤ 15 → stepped c s .chip .port ≡ moved (c .port) (levels s) .port
 unfolding stepped
 stepped-moved c s h = simp (le-ltb _ _ h)
 

@@ -49,5 +49,5 @@ abbrev pub notes : Chip → List Event → List ℕ
 notes c [] = []
 notes c (sample s ∷ es) =
     let next = happened c (sample s) in
-    cond (eqb s 14 && not (c .port .levels .rd)) (dataNumber (next .port .line) ∷ notes next es) (notes next es)
+    cond (not (c .port .levels .rd) && eqb s 14) (dataNumber (next .port .line) ∷ notes next es) (notes next es)
 notes c (tick ∷ es) = notes (happened c tick) es

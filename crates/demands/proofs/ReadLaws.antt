@@ -1,0 +1,160 @@
+-- A read's stream, fed to a port: the head leads to the address, each nibble read is one computation, and what the host notes
+-- decodes to the memory. Assumes nothing.
+use mathlib.Core.Path.{_≡_, _∙_, refl, sym, ap, ap₂}
+use mathlib.Core.Bool.{Bool, true, false, cond, not, _&&_}
+use mathlib.Core.List.{List, [], _∷_, _++_, map}
+use Prim.Native.Nat.{ℕ, zero, suc, _+_, _*_, _%_, _≤_, _<_}
+use native.Mathlib.Omega.{arith}
+use lib.Dec.{eqb}
+use lib.ListN.{length, getD, drop}
+use lib.Seq.{getD-drop, drop-drop}
+use Rattle.ground.specs.Bits.{bitAt, bitNumber}
+use Rattle.ground.specs.Values.{values, agree}
+use Rattle.frames.specs.declared.Levels.{Levels}
+use Rattle.frames.specs.declared.Phase.the-variants.{Reading}
+use Rattle.frames.specs.declared.Line.{Line}
+use Rattle.frames.specs.declared.Line.the-variants.{Released, Driven}
+use Rattle.frames.specs.declared.Answer.{Answer}
+use Rattle.frames.specs.declared.Answer.the-variants.{Nothing, Closed}
+use Rattle.frames.specs.Samples.{levels}
+use Rattle.frames.specs.Frames.{next, frame, closed, taken, identTaken, identified, readToTaken, offered, readOffered}
+use Rattle.chip.specs.declared.Port.{Port}
+use Rattle.chip.specs.declared.Chip.{Chip}
+use Rattle.chip.specs.Chip.{memoryAfter, framedBy, moved, stepped}
+use Rattle.chip.specs.Valid.{Nibbles}
+use Rattle.driver.specs.Streams.{readId, addressBits, decoded}
+use Rattle.demands.specs.Events.{Event, sample, tick, happened, samples, dataNumber, notes}
+use Rattle.demands.specs.Demand2.{lastAnswer}
+use Rattle.demands.proofs.Ports.{Sixteen, runP, trace, idle, high, high-idles, stepped-moved}
+use Rattle.demands.proofs.StreamLevels.{up, bitsL, headL, readsL}
+use Rattle.demands.proofs.SettingsLaws.{Plain}
+use Rattle.demands.proofs.WriteLaws.{sixBits, address-bits, next-mod}
+
+-- ---- what the host notes, by levels
+
+-- the levels of the sample 14
+abbrev noting : Levels → Bool
+noting l = not (l .cs) && l .wr && l .rd && l .bit
+
+abbrev pub notesL : Port → List Levels → List ℕ
+notesL p [] = []
+notesL p (l ∷ ls) =
+    let q = moved p l .port in
+    cond (not (p .levels .rd) && noting l) (dataNumber (q .line) ∷ notesL q ls) (notesL q ls)
+
+fourteens : values (λ s. eqb s 14) 0 16 ≡ values (λ s. noting (levels s)) 0 16
+fourteens = refl
+
+fourteen : (s : ℕ) → s ≤ 15 → eqb s 14 ≡ noting (levels s)
+fourteen s h = agree (λ k. eqb k 14) (λ k. noting (levels k)) 16 fourteens s (omega arith)
+
+pub after-notes : (c : Chip) (es : List Event) → Sixteen (samples es) → notes c es ≡ notesL (c .port) (map levels (samples es))
+after-notes c [] v = refl
+after-notes c (tick ∷ es) v = after-notes (happened c tick) es v
+after-notes c (sample s ∷ es) v =
+    simp (fourteen s (v .0), after-notes (happened c (sample s)) es (v .1), stepped-moved c s (v .0))
+
+-- ---- the head
+
+-- a frame that offers from D0 on, at address a
+abbrev pub offering : Bool → Line → List ℕ → ℕ → Port
+offering b line m a = record { memory = m; levels = up b; phase = Reading a 0; line = line }
+
+abbrev restL : ℕ → List Levels
+restL first = up true ∷ bitsL (readId ++ addressBits first)
+
+abbrev pub readL : ℕ → ℕ → List Levels
+readL first n = headL (readId ++ addressBits first) ++ readsL n
+
+reached-by : (m : List ℕ) (first : ℕ)
+    → runP (idle m high) (restL first)
+    ≡ offering (bitAt 0 first) Released m (sixBits (bitAt 5 first) (bitAt 4 first) (bitAt 3 first) (bitAt 2 first) (bitAt 1 first) (bitAt 0 first))
+unfolding moved framedBy frame taken identTaken identified readToTaken memoryAfter
+reached-by m first = refl
+
+-- a sample with CS high is none that the host notes
+not-noted : (before : Bool) (x y : List ℕ) → cond (not before && false) x y ≡ y
+not-noted true x y = refl
+not-noted false x y = refl
+
+head-notes : (m : List ℕ) (first : ℕ) (ls : List Levels)
+    → notesL (idle m high) (restL first ++ ls) ≡ notesL (runP (idle m high) (restL first)) ls
+unfolding moved framedBy frame taken identTaken identified readToTaken memoryAfter
+head-notes m first ls = refl
+
+same-address : (first : ℕ) → first < 32
+    → sixBits (bitAt 5 first) (bitAt 4 first) (bitAt 3 first) (bitAt 2 first) (bitAt 1 first) (bitAt 0 first) ≡ first % 32
+same-address first h = address-bits first h ∙ omega arith
+
+-- ---- the nibbles
+
+abbrev fromBits : ℕ → ℕ
+fromBits n = bitNumber (bitAt 0 n) + 2 * bitNumber (bitAt 1 n) + 4 * bitNumber (bitAt 2 n) + 8 * bitNumber (bitAt 3 n)
+
+nibbles : values fromBits 0 16 ≡ values (λ n. n) 0 16
+nibbles = refl
+
+from-bits : (n : ℕ) → n < 16 → fromBits n ≡ n
+from-bits n h = agree fromBits (λ k. k) 16 nibbles n h
+
+read-nibble : (b : Bool) (line : Line) (m : List ℕ) (a n : ℕ)
+    → decoded (notesL (offering b line m a) (readsL (suc n)))
+    ≡ fromBits (getD m a 0) ∷ decoded (notesL (offering true (Driven (bitAt 3 (getD m a 0))) m (next a)) (readsL n))
+unfolding moved framedBy frame offered readOffered memoryAfter
+read-nibble b line m a n = refl
+
+-- the memory from a on begins with vs
+reads-decode : (vs rest : List ℕ) (b : Bool) (line : Line) (m : List ℕ) (a : ℕ) → a + length vs ≤ 32 → Nibbles vs → drop a m ≡ vs ++ rest
+    → decoded (notesL (offering b line m (a % 32)) (readsL (length vs))) ≡ vs
+unfolding moved framedBy frame closed
+reads-decode [] rest b line m a h v e = refl
+reads-decode (n ∷ vs) rest b line m a h v e =
+    read-nibble b line m (a % 32) (length vs)
+    ∙ ap₂ _∷_ here
+    (ap (λ (x : ℕ). decoded (notesL (offering true (Driven (bitAt 3 (getD m (a % 32) 0))) m x) (readsL (length vs)))) (next-mod a)
+    ∙ reads-decode vs rest true (Driven (bitAt 3 (getD m (a % 32) 0))) m (suc a) (omega arith) (v .1) there)
+  where
+    small : a % 32 ≡ a + 0
+    small = omega arith
+
+    at : getD m (a % 32) 0 ≡ n
+    at = ap (λ (x : ℕ). getD m x 0) small ∙ sym (getD-drop a m 0 0) ∙ ap (λ (l : List ℕ). getD l 0 0) e
+
+    here : fromBits (getD m (a % 32) 0) ≡ n
+    here = ap fromBits at ∙ from-bits n (v .0)
+
+    one : suc a ≡ a + 1
+    one = omega arith
+
+    there : drop (suc a) m ≡ vs ++ rest
+    there = ap (λ (x : ℕ). drop x m) one ∙ sym (drop-drop 1 a m) ∙ ap (drop 1) e
+
+pub read-decodes : (p : Port) (first : ℕ) (vs rest : List ℕ) → 0 < length vs → first + length vs ≤ 32 → Nibbles vs
+    → drop first (p .memory) ≡ vs ++ rest → decoded (notesL p (readL first (length vs))) ≡ vs
+read-decodes p first vs rest some h v e =
+    ap decoded
+    (not-noted (p .levels .rd) _ _
+    ∙ ap (λ (q : Port). notesL q (restL first ++ readsL (length vs))) (high-idles p)
+    ∙ head-notes (p .memory) first (readsL (length vs))
+    ∙ ap (λ (q : Port). notesL q (readsL (length vs))) (reached-by (p .memory) first)
+    ∙ ap (λ (x : ℕ). notesL (offering (bitAt 0 first) Released (p .memory) x) (readsL (length vs))) (same-address first (omega arith)))
+    ∙ reads-decode vs rest (bitAt 0 first) Released (p .memory) first h v e
+
+-- ---- neither memory nor settings
+
+body-memory : (n : ℕ) (b : Bool) (line : Line) (m : List ℕ) (a : ℕ) → runP (offering b line m a) (readsL n) .memory ≡ m
+unfolding moved framedBy frame closed offered readOffered memoryAfter
+body-memory zero b line m a = refl
+body-memory (suc n) b line m a = body-memory n true (Driven (bitAt 3 (getD m a 0))) m (next a)
+
+body-plain : (n : ℕ) (b : Bool) (line : Line) (m : List ℕ) (a : ℕ) → Plain (trace (offering b line m a) (readsL n))
+unfolding moved framedBy frame closed offered readOffered memoryAfter
+body-plain zero b line m a = (tt, tt)
+body-plain (suc n) b line m a =
+    (tt, (tt, (tt, (tt, (tt, (tt, (tt, (tt, body-plain n true (Driven (bitAt 3 (getD m a 0))) m (next a)))))))))
+
+body-closes : (n : ℕ) (b : Bool) (line : Line) (m : List ℕ) (a : ℕ) (before : Answer)
+    → lastAnswer before (trace (offering b line m a) (readsL n)) ≡ Closed
+unfolding moved framedBy frame closed offered readOffered memoryAfter
+body-closes zero b line m a before = refl
+body-closes (suc n) b line m a before = body-closes n true (Driven (bitAt 3 (getD m a 0))) m (next a) Nothing
