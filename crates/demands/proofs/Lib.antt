@@ -1,3 +1,4 @@
+pub mod CommandLaws
 pub mod Ports
 pub mod ReadLaws
 pub mod SettingsLaws

@@ -6,6 +6,7 @@ use mathlib.Core.List.{List, [], _∷_, _++_, map}
 use Prim.Native.Nat.{ℕ, zero, suc, _≤_, _<_}
 use native.Mathlib.Omega.{arith}
 use lib.Dec.{eqb, ltb}
+use lib.ListN.{take}
 use borrow.Author.Tests.{le-ltb}
 use Rattle.frames.specs.declared.Levels.{Levels}
 use Rattle.frames.specs.declared.Phase.the-variants.{Idle}
@@ -38,6 +39,10 @@ runP p (l ∷ ls) = runP (moved p l .port) ls
 abbrev pub trace : Port → List Levels → List Answer
 trace p [] = []
 trace p (l ∷ ls) = moved p l .answer ∷ trace (moved p l .port) ls
+
+pub trace-append : (p : Port) (xs ys : List Levels) → trace p (xs ++ ys) ≡ trace p xs ++ trace (runP p xs) ys
+trace-append p [] ys = refl
+trace-append p (x ∷ xs) ys = ap (λ (rest : List Answer). moved p x .answer ∷ rest) (trace-append (moved p x .port) xs ys)
 
 pub stepped-moved : (c : Chip) (s : ℕ) → s ≤ 15 → stepped c s .chip .port ≡ moved (c .port) (levels s) .port
 unfolding stepped
@@ -86,3 +91,13 @@ module _ (p : Port) where
   pub high-idles : moved p high .port ≡ idle (p .memory) high
   unfolding moved framedBy memoryAfter
   high-idles = simp (by-before (p .levels .cs), closing-act)
+
+  -- and what it is answered changes neither memory nor settings
+  pub high-keeps : act (moved p high .answer) ≡ Keep
+  unfolding moved framedBy
+  high-keeps = simp (by-before (p .levels .cs), closing-act)
+
+pub trace-take : (p : Port) (k : ℕ) (ls : List Levels) → trace p (take k ls) ≡ take k (trace p ls)
+trace-take p zero ls = refl
+trace-take p (suc k) [] = refl
+trace-take p (suc k) (l ∷ ls) = ap (λ (rest : List Answer). moved p l .answer ∷ rest) (trace-take (moved p l .port) k ls)

@@ -23,13 +23,9 @@ use Rattle.chip.specs.Chip.{memoryAfter, framedBy, moved}
 use Rattle.chip.specs.Valid.{Nibbles}
 use Rattle.driver.specs.Refusals.{commandFault}
 use Rattle.driver.specs.Streams.{writeId, readId, commandId, addressBits, nibbleBits, commandBits}
-use Rattle.demands.proofs.Ports.{runP, trace, idle, high, high-idles}
+use Rattle.demands.proofs.Ports.{runP, trace, trace-append, idle, high, high-idles}
 use Rattle.demands.proofs.StreamLevels.{up, bitsL, headL, nibblesL, commandsL, readsL}
 use Rattle.demands.proofs.WriteLaws.{ready, nibble-bits, nibble-step, head-at, writeL}
-
-trace-append : (p : Port) (xs ys : List Levels) → trace p (xs ++ ys) ≡ trace p xs ++ trace (runP p xs) ys
-trace-append p [] ys = refl
-trace-append p (x ∷ xs) ys = ap (λ (rest : List Answer). moved p x .answer ∷ rest) (trace-append (moved p x .port) xs ys)
 
 -- n bits that are taken and complete nothing
 abbrev pub bitAnswers : ℕ → List Answer
