@@ -21,7 +21,7 @@ use Rattle.chip.specs.declared.Port.{Port}
 use Rattle.chip.specs.Chip.{memoryAfter, framedBy, moved}
 use Rattle.driver.specs.Refusals.{commandFault}
 use Rattle.driver.specs.Streams.{commandId, commandBits}
-use Rattle.demands.proofs.Ports.{runP, trace, trace-append, idle, high, high-idles}
+use Rattle.demands.proofs.Ports.{runP, run-append, trace, trace-append, idle, high, high-idles}
 use Rattle.demands.proofs.StreamLevels.{up, bitsL, headL, commandsL}
 use Rattle.demands.proofs.TraceLaws.{bitAnswers}
 
@@ -102,10 +102,6 @@ body-answers (code ∷ codes) b m v =
     (command-answers code (v .0 .0) (v .0 .1) b m)
     ∙ ap (λ (rest : List Answer). bitAnswers 8 ++ Nothing ∷ Obeyed code ∷ rest)
     (ap (λ (q : Port). trace q (commandsL codes)) (command-step code (v .0 .0) (v .0 .1) b m) ∙ body-answers codes false m (v .1))
-
-run-append : (p : Port) (xs ys : List Levels) → runP p (xs ++ ys) ≡ runP (runP p xs) ys
-run-append p [] ys = refl
-run-append p (x ∷ xs) ys = run-append (moved p x .port) xs ys
 
 body-memory : (codes : List ℕ) (b : Bool) (m : List ℕ) → Defined codes → runP (commanding b m) (commandsL codes) .memory ≡ m
 body-memory [] b m v = closed-memory b m

@@ -1,4 +1,7 @@
+pub mod AcceptedLaws
 pub mod CommandLaws
+pub mod Demand2
+pub mod Demand3
 pub mod Ports
 pub mod ReadLaws
 pub mod SettingsLaws

@@ -40,6 +40,10 @@ abbrev pub trace : Port → List Levels → List Answer
 trace p [] = []
 trace p (l ∷ ls) = moved p l .answer ∷ trace (moved p l .port) ls
 
+pub run-append : (p : Port) (xs ys : List Levels) → runP p (xs ++ ys) ≡ runP (runP p xs) ys
+run-append p [] ys = refl
+run-append p (x ∷ xs) ys = run-append (moved p x .port) xs ys
+
 pub trace-append : (p : Port) (xs ys : List Levels) → trace p (xs ++ ys) ≡ trace p xs ++ trace (runP p xs) ys
 trace-append p [] ys = refl
 trace-append p (x ∷ xs) ys = ap (λ (rest : List Answer). moved p x .answer ∷ rest) (trace-append (moved p x .port) xs ys)

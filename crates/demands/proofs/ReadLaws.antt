@@ -1,6 +1,6 @@
 -- A read's stream, fed to a port: the head leads to the address, each nibble read is one computation, and what the host notes
 -- decodes to the memory. Assumes nothing.
-use mathlib.Core.Path.{_≡_, _∙_, refl, sym, ap, ap₂}
+use mathlib.Core.Path.{_≡_, _∙_, refl, sym, ap, ap₂, subst}
 use mathlib.Core.Bool.{Bool, true, false, cond, not, _&&_}
 use mathlib.Core.List.{List, [], _∷_, _++_, map}
 use Prim.Native.Nat.{ℕ, zero, suc, _+_, _*_, _%_, _≤_, _<_}
@@ -15,7 +15,7 @@ use Rattle.frames.specs.declared.Phase.the-variants.{Reading}
 use Rattle.frames.specs.declared.Line.{Line}
 use Rattle.frames.specs.declared.Line.the-variants.{Released, Driven}
 use Rattle.frames.specs.declared.Answer.{Answer}
-use Rattle.frames.specs.declared.Answer.the-variants.{Nothing, Closed}
+use Rattle.frames.specs.declared.Answer.the-variants.{Nothing, Opened, Closed, Taken}
 use Rattle.frames.specs.Samples.{levels}
 use Rattle.frames.specs.Frames.{next, frame, closed, taken, identTaken, identified, readToTaken, offered, readOffered}
 use Rattle.chip.specs.declared.Port.{Port}
@@ -25,9 +25,10 @@ use Rattle.chip.specs.Valid.{Nibbles}
 use Rattle.driver.specs.Streams.{readId, addressBits, decoded}
 use Rattle.demands.specs.Events.{Event, sample, tick, happened, samples, dataNumber, notes}
 use Rattle.demands.specs.Demand2.{lastAnswer}
-use Rattle.demands.proofs.Ports.{Sixteen, runP, trace, idle, high, high-idles, stepped-moved}
+use Rattle.demands.proofs.Ports.{Sixteen, runP, trace, trace-append, run-append, idle, high, high-idles, high-keeps, stepped-moved}
 use Rattle.demands.proofs.StreamLevels.{up, bitsL, headL, readsL}
-use Rattle.demands.proofs.SettingsLaws.{Plain}
+use Rattle.demands.proofs.SettingsLaws.{Plain, Unobeyed}
+use Rattle.demands.proofs.TraceLaws.{bitAnswers, bits-plain}
 use Rattle.demands.proofs.WriteLaws.{sixBits, address-bits, next-mod}
 
 -- ---- what the host notes, by levels
@@ -60,6 +61,10 @@ after-notes c (sample s ∷ es) v =
 abbrev pub offering : Bool → Line → List ℕ → ℕ → Port
 offering b line m a = record { memory = m; levels = up b; phase = Reading a 0; line = line }
 
+-- the address that the bits of an address make
+abbrev addressed : ℕ → ℕ
+addressed first = sixBits (bitAt 5 first) (bitAt 4 first) (bitAt 3 first) (bitAt 2 first) (bitAt 1 first) (bitAt 0 first)
+
 abbrev restL : ℕ → List Levels
 restL first = up true ∷ bitsL (readId ++ addressBits first)
 
@@ -68,7 +73,7 @@ readL first n = headL (readId ++ addressBits first) ++ readsL n
 
 reached-by : (m : List ℕ) (first : ℕ)
     → runP (idle m high) (restL first)
-    ≡ offering (bitAt 0 first) Released m (sixBits (bitAt 5 first) (bitAt 4 first) (bitAt 3 first) (bitAt 2 first) (bitAt 1 first) (bitAt 0 first))
+    ≡ offering (bitAt 0 first) Released m (addressed first)
 unfolding moved framedBy frame taken identTaken identified readToTaken memoryAfter
 reached-by m first = refl
 
@@ -83,7 +88,7 @@ unfolding moved framedBy frame taken identTaken identified readToTaken memoryAft
 head-notes m first ls = refl
 
 same-address : (first : ℕ) → first < 32
-    → sixBits (bitAt 5 first) (bitAt 4 first) (bitAt 3 first) (bitAt 2 first) (bitAt 1 first) (bitAt 0 first) ≡ first % 32
+    → addressed first ≡ first % 32
 same-address first h = address-bits first h ∙ omega arith
 
 -- ---- the nibbles
@@ -158,3 +163,47 @@ body-closes : (n : ℕ) (b : Bool) (line : Line) (m : List ℕ) (a : ℕ) (befor
 unfolding moved framedBy frame closed offered readOffered memoryAfter
 body-closes zero b line m a before = refl
 body-closes (suc n) b line m a before = body-closes n true (Driven (bitAt 3 (getD m a 0))) m (next a) Nothing
+
+-- ---- the whole stream
+
+-- from any port, through the head
+to-body : (p : Port) (first n : ℕ)
+    → runP (moved p high .port) (restL first ++ readsL n)
+    ≡ runP (offering (bitAt 0 first) Released (p .memory) (addressed first)) (readsL n)
+to-body p first n =
+    ap (λ (q : Port). runP q (restL first ++ readsL n)) (high-idles p)
+    ∙ run-append (idle (p .memory) high) (restL first) (readsL n)
+    ∙ ap (λ (q : Port). runP q (readsL n)) (reached-by (p .memory) first)
+
+pub read-memory : (p : Port) (first n : ℕ) → runP p (readL first n) .memory ≡ p .memory
+read-memory p first n =
+    ap (λ (q : Port). q .memory) (to-body p first n) ∙ body-memory n (bitAt 0 first) Released (p .memory) _
+
+head-trace : (m : List ℕ) (first : ℕ) → trace (idle m high) (restL first) ≡ Opened ∷ bitAnswers 9
+unfolding moved framedBy frame taken identTaken identified readToTaken memoryAfter
+head-trace m first = refl
+
+read-trace : (p : Port) (first n : ℕ)
+    → trace p (readL first n)
+    ≡ moved p high .answer ∷ Opened ∷ bitAnswers 9
+    ++ trace (offering (bitAt 0 first) Released (p .memory) (addressed first)) (readsL n)
+read-trace p first n =
+    ap (λ (rest : List Answer). moved p high .answer ∷ rest)
+    (ap (λ (q : Port). trace q (restL first ++ readsL n)) (high-idles p)
+    ∙ trace-append (idle (p .memory) high) (restL first) (readsL n)
+    ∙ ap (λ (done : List Answer). done ++ trace (runP (idle (p .memory) high) (restL first)) (readsL n)) (head-trace (p .memory) first)
+    ∙ ap (λ (q : Port). Opened ∷ bitAnswers 9 ++ trace q (readsL n)) (reached-by (p .memory) first))
+
+pub read-plain : (p : Port) (first n : ℕ) → Plain (trace p (readL first n))
+read-plain p first n =
+    subst Plain (sym (read-trace p first n)) (
+      subst Unobeyed (sym (high-keeps p)) tt,
+      (
+        tt,
+        bits-plain 9 (trace (offering (bitAt 0 first) Released (p .memory) (addressed first)) (readsL n))
+            (body-plain n (bitAt 0 first) Released (p .memory) (addressed first)),
+      ),
+    )
+
+pub read-closes : (p : Port) (first n : ℕ) → lastAnswer Nothing (trace p (readL first n)) ≡ Closed
+read-closes p first n = ap (lastAnswer Nothing) (read-trace p first n) ∙ body-closes n (bitAt 0 first) Released (p .memory) _ Taken

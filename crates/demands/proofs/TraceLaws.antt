@@ -24,6 +24,7 @@ use Rattle.chip.specs.Valid.{Nibbles}
 use Rattle.driver.specs.Refusals.{commandFault}
 use Rattle.driver.specs.Streams.{writeId, readId, commandId, addressBits, nibbleBits, commandBits}
 use Rattle.demands.proofs.Ports.{runP, trace, trace-append, idle, high, high-idles}
+use Rattle.demands.proofs.SettingsLaws.{Plain}
 use Rattle.demands.proofs.StreamLevels.{up, bitsL, headL, nibblesL, commandsL, readsL}
 use Rattle.demands.proofs.WriteLaws.{ready, nibble-bits, nibble-step, head-at, writeL}
 
@@ -31,6 +32,10 @@ use Rattle.demands.proofs.WriteLaws.{ready, nibble-bits, nibble-step, h
 abbrev pub bitAnswers : ℕ → List Answer
 bitAnswers zero = []
 bitAnswers (suc n) = Nothing ∷ Taken ∷ bitAnswers n
+
+pub bits-plain : (k : ℕ) (rest : List Answer) → Plain rest → Plain (bitAnswers k ++ rest)
+bits-plain zero rest v = v
+bits-plain (suc k) rest v = (tt, (tt, bits-plain k rest v))
 
 -- ---- a write
 

@@ -1,0 +1,88 @@
+-- What a request that the driver accepts has passed: each refusal's test failed. Assumes nothing.
+use mathlib.Core.Path.{_≡_, _∙_, refl}
+use mathlib.Core.Bool.{Bool, true, false}
+use mathlib.Core.List.{List, [], _∷_}
+use Prim.Native.Nat.{ℕ, zero, suc, _+_, _*_, _≤_, _<_, suc-le-suc, zero-le}
+use native.Mathlib.Decide.{decLt}
+use native.Mathlib.Omega.{arith}
+use lib.Dec.{ltb}
+use lib.ListN.{length, getD}
+use borrow.Author.Tests.{ltb-false, eqb-false, lt-ltb}
+use Rattle.ground.specs.declared.Refusal.{Refusal}
+use Rattle.ground.specs.Places.{lowest, somewhere}
+use Rattle.ground.proofs.PlacesLaws.{lowest-below, none-above}
+use Rattle.commands.specs.Commands.{codeMeaning, undefined}
+use Rattle.chip.specs.Valid.{Nibbles}
+use Rattle.driver.specs.declared.Answer.{Answer}
+use Rattle.driver.specs.declared.Answer.the-variants.{Written, Refused}
+use Rattle.driver.specs.Refusals.{nothing, outsideMemory, tooMany, nibbleFault, commandFault, refusedIf, fitted, writeAnswer, readAnswer, commandAnswer}
+use Rattle.driver.specs.Streams.{writeStream, readStream, commandStream}
+use Rattle.driver.proofs.RefusalsLaws.{inside}
+use Rattle.demands.specs.Demand2.{AcceptsRead, AcceptsCommands}
+use Rattle.demands.specs.Demand3.{Accepts}
+use Rattle.demands.proofs.CommandLaws.{Defined}
+
+-- a success is no refusal
+passed : (test : Bool) (why : Refusal) (rest : Answer) (n : ℕ) → refusedIf test why rest ≡ Written n → (test ≡ false) × (rest ≡ Written n)
+passed true why rest n e = let z : _≡_ {A = ℕ} 0 1 = cc in let no : ⊥ = omega arith in absurd no
+passed false why rest n e = (refl, e)
+
+nibbles-from : (ns : List ℕ) → ((k : ℕ) → k < length ns → getD ns k 0 ≤ 15) → Nibbles ns
+nibbles-from [] f = tt
+nibbles-from (n ∷ ns) f = (suc-le-suc (f 0 (suc-le-suc zero-le)), nibbles-from ns (λ k h. f (suc k) (suc-le-suc h)))
+
+-- a code above 255 has no meaning
+defined-byte : (code : ℕ) → commandFault code ≡ false → code < 256
+unfolding commandFault codeMeaning
+defined-byte code e = by (decLt code 256)
+  where
+    by : Dec (code < 256) → code < 256
+    by (yes h) = h
+    by (no h) =
+        let past : ltb 511 (2 * code) ≡ true = lt-ltb 511 (2 * code) (omega arith) in
+        let z : true ≡ false = simp past at e in
+        let one : _≡_ {A = ℕ} 0 1 = cc in let no : ⊥ = omega arith in absurd no
+
+defined-from : (codes : List ℕ) → ((k : ℕ) → k < length codes → commandFault (getD codes k 0) ≡ false) → Defined codes
+defined-from [] f = tt
+defined-from (code ∷ codes) f =
+    let e = f 0 (suc-le-suc zero-le) in ((defined-byte code e, e), defined-from codes (λ k h. f (suc k) (suc-le-suc h)))
+
+-- ---- a write
+
+pub record Fit (first : ℕ) (ns : List ℕ) : Type 0 where
+  pub some : 0 < length ns
+  pub inside : first + length ns ≤ 32
+  pub nibbles : Nibbles ns
+
+pub accepted-write : (first : ℕ) (ns : List ℕ) → Accepts first ns → Fit first ns
+unfolding writeAnswer
+accepted-write first ns e =
+    let a = passed (nothing (length ns)) _ _ _ e in
+    let b = passed (outsideMemory first (length ns)) _ _ _ (a .1) in
+    let c = passed (somewhere nibbleFault ns) _ _ _ (b .1) in
+    record {
+      some = omega (arith, eqb-false (length ns) 0 (a .0));
+      inside = inside first (length ns) (b .0) .1;
+      nibbles = nibbles-from ns (none-above 15 ns (ltb-false (lowest nibbleFault ns) (length ns) (c .0)));
+    }
+
+-- ---- a read
+
+pub accepted-read : (first count : ℕ) → AcceptsRead first count → (0 < count) × (first + count ≤ 32)
+unfolding readAnswer
+accepted-read first count e =
+    let a = passed (nothing count) _ _ _ e in
+    let b = passed (outsideMemory first count) _ _ _ (a .1) in
+    (omega (arith, eqb-false count 0 (a .0)), inside first count (b .0) .1)
+
+-- ---- commands
+
+pub accepted-commands : (codes : List ℕ) → AcceptsCommands codes → Defined codes
+unfolding commandAnswer
+accepted-commands codes e =
+    let a = passed (nothing (length codes)) _ _ _ e in
+    let b = passed (tooMany (length codes)) _ _ _ (a .1) in
+    let c = passed (somewhere commandFault codes) _ _ _ (b .1) in
+    let none = ltb-false (lowest commandFault codes) (length codes) (c .0) in
+    defined-from codes (λ k h. lowest-below commandFault codes k (commandFault (getD codes k 0)) refl (omega arith))

@@ -1,0 +1,185 @@
+-- Demand 2 holds: each stream's answers are known one by one, and stores, commands, settings and notes are read off them.
+-- Assumes nothing.
+use mathlib.Core.Path.{_≡_, _∙_, refl, sym, ap, subst}
+use mathlib.Core.List.{List, [], _∷_, _++_, map}
+use Prim.Native.Nat.{ℕ, zero, suc, _+_, _≤_, _<_}
+use native.Mathlib.Omega.{arith}
+use lib.ListN.{length, take, drop, length-take, length-drop, take-append-drop}
+use Rattle.frames.specs.declared.Levels.{Levels}
+use Rattle.frames.specs.declared.Act.{Act}
+use Rattle.frames.specs.declared.Act.the-variants.{Keep}
+use Rattle.frames.specs.declared.Answer.{Answer}
+use Rattle.frames.specs.declared.Answer.the-variants.{Nothing, Opened, Closed, Taken}
+use Rattle.frames.specs.Samples.{levels}
+use Rattle.frames.specs.Answers.{act}
+use Rattle.chip.specs.declared.Port.{Port}
+use Rattle.chip.specs.declared.Chip.{Chip}
+use Rattle.chip.specs.Chip.{moved}
+use Rattle.chip.specs.Valid.{Nibbles, Valid}
+use Rattle.driver.specs.Streams.{writeStream, readStream, commandStream}
+use Rattle.demands.specs.Events.{Event, after, samples, answers}
+use Rattle.demands.specs.Demand2.{StoredAt, ObeyedAt, storedBy, stores, dueStores, obeyedBy, obeys, dueCommands, lastAnswer, between, Writes, Reads, Commands, Demand2}
+use Rattle.demands.proofs.AcceptedLaws.{Fit, accepted-write, accepted-read, accepted-commands}
+use Rattle.demands.proofs.CommandLaws.{Defined, commandsAnswers, commandL, command-memory, stream-answers}
+use Rattle.demands.proofs.Demand3.{sets-whole, write-plain, write-done, read-done, keep-plain}
+use Rattle.demands.proofs.Ports.{Sixteen, runP, trace, high, high-keeps, after-port, after-answers}
+use Rattle.demands.proofs.ReadLaws.{readL, read-memory, read-plain, read-closes}
+use Rattle.demands.proofs.SettingsLaws.{Plain, plain-settings, due-settings}
+use Rattle.demands.proofs.StreamLevels.{write-levels, read-levels, command-levels, write-sixteen, read-sixteen, command-sixteen}
+use Rattle.demands.proofs.TraceLaws.{bitAnswers, nibbleAnswers, write-answers}
+use Rattle.demands.proofs.WriteLaws.{writeL}
+
+-- ---- what is read off a list of answers
+
+-- a first answer that keeps
+stores-first : (a : Act) (n : ℕ) (rest : List StoredAt) → a ≡ Keep → storedBy a n rest ≡ rest
+stores-first a n rest e = rw e
+
+obeys-first : (a : Act) (n : ℕ) (rest : List ObeyedAt) → a ≡ Keep → obeyedBy a n rest ≡ rest
+obeys-first a n rest e = rw e
+
+nibbles-stores : (ns : List ℕ) (n at : ℕ) → stores n (nibbleAnswers at ns) ≡ dueStores (n + 7) at ns
+nibbles-stores [] n at = refl
+nibbles-stores (v ∷ ns) n at =
+    ap (λ (x : ℕ). record { sample = x; address = at; nibble = v } ∷ stores (suc (suc (suc (suc (suc (suc (suc (suc n)))))))) (nibbleAnswers (at + 1) ns)) seven
+    ∙ ap (λ (rest : List StoredAt). record { sample = n + 7; address = at; nibble = v } ∷ rest)
+    (nibbles-stores ns (suc (suc (suc (suc (suc (suc (suc (suc n)))))))) (at + 1) ∙ ap (λ (x : ℕ). dueStores x (at + 1) ns) eight)
+  where
+    seven : suc (suc (suc (suc (suc (suc (suc n)))))) ≡ n + 7
+    seven = omega arith
+
+    eight : suc (suc (suc (suc (suc (suc (suc (suc n))))))) + 7 ≡ n + 7 + 8
+    eight = omega arith
+
+nibbles-close : (ns : List ℕ) (at : ℕ) (before : Answer) → lastAnswer before (nibbleAnswers at ns) ≡ Closed
+nibbles-close [] at before = refl
+nibbles-close (v ∷ ns) at before = nibbles-close ns (at + 1) _
+
+commands-obeys : (codes : List ℕ) (n : ℕ) → obeys n (commandsAnswers codes) ≡ dueCommands (n + 17) codes
+commands-obeys [] n = refl
+commands-obeys (code ∷ codes) n =
+    ap (λ (x : ℕ). record { sample = x; code = code } ∷ obeys (suc x) (commandsAnswers codes)) seventeen
+    ∙ ap (λ (rest : List ObeyedAt). record { sample = n + 17; code = code } ∷ rest)
+    (commands-obeys codes (suc (n + 17)) ∙ ap (λ (x : ℕ). dueCommands x codes) eighteen)
+  where
+    seventeen : suc (suc (suc (suc (suc (suc (suc (suc (suc (suc (suc (suc (suc (suc (suc (suc (suc n)))))))))))))))) ≡ n + 17
+    seventeen = omega arith
+
+    eighteen : suc (n + 17) + 17 ≡ n + 17 + 18
+    eighteen = omega arith
+
+commands-close : (codes : List ℕ) (before : Answer) → lastAnswer before (commandsAnswers codes) ≡ Closed
+commands-close [] before = refl
+commands-close (code ∷ codes) before = commands-close codes _
+
+-- ---- a write
+
+writes : (c : Chip) (first : ℕ) (ns : List ℕ) (es : List Event) → Valid c → Fit first ns → samples es ≡ writeStream first ns
+    → Writes c first ns es
+writes c first ns es valid fit e =
+    record {
+      memory = write-done c first ns es fit e ∙ sets-whole (c .port .memory) first ns (omega (arith, valid .port .size, fit .inside));
+      stored =
+          ap (stores 1) answered
+          ∙ stores-first (act (moved (c .port) high .answer)) 1 (stores 21 (nibbleAnswers first ns)) (high-keeps (c .port))
+          ∙ nibbles-stores ns 21 first;
+      closed = ap (lastAnswer Nothing) answered ∙ nibbles-close ns first Taken;
+      settings = plain-settings c es small (subst Plain (sym traced) (write-plain (c .port) first ns fit));
+    }
+  where
+    small : Sixteen (samples es)
+    small = subst Sixteen (sym e) (write-sixteen first ns)
+
+    traced : answers c es ≡ trace (c .port) (writeL first ns)
+    traced = after-answers c es small ∙ ap (trace (c .port)) (ap (map levels) e ∙ write-levels first ns)
+
+    answered : answers c es ≡ moved (c .port) high .answer ∷ Opened ∷ bitAnswers 9 ++ nibbleAnswers first ns
+    answered = traced ∙ write-answers (c .port) first ns (fit .inside) (fit .some) (fit .nibbles)
+
+-- ---- a read
+
+-- part of a memory of nibbles
+drop-nibbles : (k : ℕ) (m : List ℕ) → Nibbles m → Nibbles (drop k m)
+drop-nibbles zero m v = same m v
+  where
+    same : (m : List ℕ) → Nibbles m → Nibbles (drop zero m)
+    same [] v = tt
+    same (x ∷ m) v = v
+drop-nibbles (suc k) [] v = tt
+drop-nibbles (suc k) (x ∷ m) v = drop-nibbles k m (v .1)
+
+take-nibbles : (k : ℕ) (m : List ℕ) → Nibbles m → Nibbles (take k m)
+take-nibbles zero m v = tt
+take-nibbles (suc k) [] v = tt
+take-nibbles (suc k) (x ∷ m) v = (v .0, take-nibbles k m (v .1))
+
+reads : (c : Chip) (first count : ℕ) (es : List Event) → Valid c → (0 < count) × (first + count ≤ 32)
+    → samples es ≡ readStream first count → Reads c first count es
+reads c first count es valid ok e =
+    record {
+      memory = ap (λ (p : Port). p .memory) (after-port c es small) ∙ ap (λ (ls : List Levels). runP (c .port) ls .memory) as-levels
+          ∙ read-memory (c .port) first count;
+      settings = plain-settings c es small (subst Plain (sym traced) (read-plain (c .port) first count));
+      noted =
+          read-done c first part (drop count (drop first m)) es fit (e ∙ ap (readStream first) (sym size))
+          (sym (take-append-drop count (drop first m)));
+      closed = ap (lastAnswer Nothing) traced ∙ read-closes (c .port) first count;
+    }
+  where
+    m : List ℕ
+    m = c .port .memory
+
+    part : List ℕ
+    part = take count (drop first m)
+
+    size : length part ≡ count
+    size = simp (length-take, length-drop) (omega (arith, valid .port .size, ok .1))
+
+    fit : Fit first part
+    fit = record { some = omega (arith, size, ok .0); inside = omega (arith, size, ok .1); nibbles = take-nibbles count (drop first m) (drop-nibbles first m (valid .port .nibbles)) }
+
+    small : Sixteen (samples es)
+    small = subst Sixteen (sym e) (read-sixteen first count)
+
+    as-levels : map levels (samples es) ≡ readL first count
+    as-levels = ap (map levels) e ∙ read-levels first count
+
+    traced : answers c es ≡ trace (c .port) (readL first count)
+    traced = after-answers c es small ∙ ap (trace (c .port)) as-levels
+
+-- ---- commands
+
+commands : (c : Chip) (codes : List ℕ) (es : List Event) → Defined codes → samples es ≡ commandStream codes → Commands c codes es
+commands c codes es v e =
+    record {
+      memory = ap (λ (p : Port). p .memory) (after-port c es small) ∙ ap (λ (ls : List Levels). runP (c .port) ls .memory) as-levels
+          ∙ command-memory (c .port) codes v;
+      obeyed = due;
+      settings = due-settings c es small ∙ ap (λ (d : List ObeyedAt). between d 0 es (c .settings)) due;
+      closed = ap (lastAnswer Nothing) answered ∙ commands-close codes Taken;
+    }
+  where
+    small : Sixteen (samples es)
+    small = subst Sixteen (sym e) (command-sixteen codes)
+
+    as-levels : map levels (samples es) ≡ commandL codes
+    as-levels = ap (map levels) e ∙ command-levels codes
+
+    answered : answers c es ≡ moved (c .port) high .answer ∷ Opened ∷ bitAnswers 3 ++ commandsAnswers codes
+    answered = after-answers c es small ∙ ap (trace (c .port)) as-levels ∙ stream-answers (c .port) codes v
+
+    due : obeys 1 (answers c es) ≡ dueCommands 26 codes
+    due =
+        ap (obeys 1) answered
+        ∙ obeys-first (act (moved (c .port) high .answer)) 1 (obeys 9 (commandsAnswers codes)) (high-keeps (c .port))
+        ∙ commands-obeys codes 9
+
+-- ---- the demand
+
+pub demand2 : Demand2
+demand2 =
+    record {
+      writes = λ c first ns es valid accepts e. writes c first ns es valid (accepted-write first ns accepts) e;
+      reads = λ c first count es valid accepts e. reads c first count es valid (accepted-read first count accepts) e;
+      commands = λ c codes es valid accepts e. commands c codes es (accepted-commands codes accepts) e;
+    }
