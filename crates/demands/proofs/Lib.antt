@@ -1,4 +1,5 @@
 pub mod AcceptedLaws
+pub mod Cases
 pub mod CommandLaws
 pub mod Demand2
 pub mod Demand3

@@ -1,0 +1,67 @@
+-- 01 "Cases on both sides", as one table under one statement. Assumes nothing.
+use mathlib.Core.Path.{_≡_}
+use mathlib.Core.Bool.{true, false}
+use mathlib.Core.List.{List, [], _∷_}
+use Prim.Native.Nat.{ℕ, _≤_}
+use lib.ListN.{length}
+use Rattle.ground.specs.declared.Refusal.the-variants.{SampleAbove, OutOfRange}
+use Rattle.commands.specs.declared.Bias.the-variants.{Third}
+use Rattle.commands.specs.declared.Commons.the-variants.{Four}
+use Rattle.commands.specs.declared.Command.the-variants.{Xtal32k, SysEn, WdtEn, TimerEn, IrqEn, BiasCom}
+use Rattle.commands.specs.declared.Decoded.the-variants.{Undefined, Means}
+use Rattle.commands.specs.Commands.{byteMeaning}
+use Rattle.rules.specs.declared.Settings.{Settings}
+use Rattle.rules.specs.Effects.{effect, powerOn}
+use Rattle.rules.specs.Ticks.{advanced}
+use Rattle.pins.specs.Pins.{irqLow}
+use Rattle.frames.specs.declared.Answer.the-variants.{Nothing, Opened, Refused}
+use Rattle.chip.specs.declared.Chip.{Chip}
+use Rattle.chip.specs.Chip.{stepped, obeyedAs}
+use Rattle.chip.specs.PowerOn.{freshChip}
+use Rattle.driver.specs.declared.Answer.the-variants.{Written, Refused as Rejected}
+use Rattle.driver.specs.Refusals.{writeAnswer}
+use Rattle.driver.specs.Streams.{writeStream, commandStream, decoded}
+
+-- The chip running from the crystal at power-on's rate, all counters 0, with the flag or the time base for IRQ.
+abbrev pub crystal : Settings
+crystal = effect IrqEn (effect SysEn (effect Xtal32k powerOn))
+
+abbrev pub byFlag : Settings
+byFlag = effect WdtEn crystal
+
+abbrev pub byTimeBase : Settings
+byTimeBase = effect TimerEn crystal
+
+-- And from the RC oscillator.
+abbrev pub byRc : Settings
+byRc = effect TimerEn (effect IrqEn (effect SysEn powerOn))
+
+pub record Cases : Type 0 where
+  -- (a) 15 at power-on answers 0, then 14 answers 1
+  pub a : (memory : List ℕ) → (stepped (freshChip memory) 15 .answer ≡ Nothing)
+      × (stepped (stepped (freshChip memory) 15 .chip) 14 .answer ≡ Opened)
+  -- (b) 16 is refused
+  pub b : (chip : Chip) → stepped chip 16 ≡ record { chip = chip; answer = Refused SampleAbove }
+  -- (c) one nibble takes 29 samples, 32 take 277
+  pub c : (first : ℕ) (nibbles : List ℕ) → (length nibbles ≡ 1 → length (writeStream first nibbles) ≡ 29)
+      × (length nibbles ≡ 32 → length (writeStream first nibbles) ≡ 277)
+  -- (d) from address 31 one nibble is accepted, two are refused with 22
+  pub d : (n m room : ℕ) → (n ≤ 15 → writeAnswer 31 (n ∷ []) 29 ≡ Written 29)
+      × (writeAnswer 31 (n ∷ m ∷ []) room ≡ Rejected OutOfRange)
+  -- (e) one command takes 27
+  pub e : (code : ℕ) → length (commandStream (code ∷ [])) ≡ 27
+  -- (f) 2B is 4 commons, 2C is undefined
+  pub f : (byteMeaning 0x2B ≡ Means (BiasCom Third Four)) × (byteMeaning 0x2C ≡ Undefined)
+  -- (g) 0D clears b and leaves w, 0F clears both
+  pub g : (s : Settings) → (obeyedAs (byteMeaning 0x0D) s .counters .timer .base .count ≡ 0)
+      × (obeyedAs (byteMeaning 0x0D) s .counters .timer .watchdog ≡ s .counters .timer .watchdog)
+      × (obeyedAs (byteMeaning 0x0F) s .counters .timer .base .count ≡ 0)
+      × (obeyedAs (byteMeaning 0x0F) s .counters .timer .watchdog .count ≡ 0)
+  -- (h) the flag is set by tick 1,024 and not by 1,023
+  pub h : (advanced 1024 byFlag .counters .timer .watchdog .flag ≡ true) × (advanced 1023 byFlag .counters .timer .watchdog .flag ≡ false)
+  -- (i) with the time base IRQ is low after tick 128, not after 127
+  pub i : (irqLow (advanced 128 byTimeBase) ≡ true) × (irqLow (advanced 127 byTimeBase) ≡ false)
+  -- (j) at RC it is low after 1,024, not after 1,023
+  pub j : (irqLow (advanced 1024 byRc) ≡ true) × (irqLow (advanced 1023 byRc) ≡ false)
+  -- (k) noted 1, 0, 1, 0 is 5
+  pub k : decoded (1 ∷ 0 ∷ 1 ∷ 0 ∷ []) ≡ 5 ∷ []
