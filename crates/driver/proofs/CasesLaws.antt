@@ -54,6 +54,7 @@ decode-five = refl
 
 -- 01 "The listing": 5 written at address 3 is these 29 samples
 pub write-five-at-3 : writeStream 3 (5 ∷ [])
-    ≡ 15 ∷ 14 ∷ 12 ∷ 14 ∷ 4 ∷ 6 ∷ 12 ∷ 14 ∷ 4 ∷ 6 ∷ 4 ∷ 6 ∷ 4 ∷ 6 ∷ 4 ∷ 6 ∷ 12 ∷ 14 ∷ 12 ∷ 14 ∷ 12 ∷ 14 ∷ 4 ∷ 6 ∷ 12 ∷ 14 ∷ 4 ∷ 6 ∷ 15 ∷ []
+    ≡ 15 ∷ 14 ∷ 12 ∷ 14 ∷ 4 ∷ 6 ∷ 12 ∷ 14 ∷ 4 ∷ 6 ∷ 4 ∷ 6 ∷ 4 ∷ 6 ∷ 4 ∷ 6 ∷ 12 ∷ 14 ∷ 12 ∷ 14 ∷
+    12 ∷ 14 ∷ 4 ∷ 6 ∷ 12 ∷ 14 ∷ 4 ∷ 6 ∷ 15 ∷ []
 unfolding writeStream
 write-five-at-3 = refl

@@ -17,7 +17,8 @@ write-determined κs args x y end end' p q = (p .answer ∙ sym (q .answer), p .
 pub read-determined : DeterminedWith 1 read-kinds.ps read-kinds.r (λ κs end. end .1 .1 .0 .now) read-reads.Post
 read-determined κs args x y end end' p q = (p .answer ∙ sym (q .answer), p .bytes ∙ sym (q .bytes))
 
-pub commands-determined : DeterminedWith 2 commands-kinds.ps commands-kinds.r (λ κs end. end .1 .0 .now) commands-reads.Post
+pub commands-determined : DeterminedWith 2 commands-kinds.ps commands-kinds.r (λ κs end. end .1 .0 .now)
+    commands-reads.Post
 commands-determined κs args x y end end' p q = (p .answer ∙ sym (q .answer), p .bytes ∙ sym (q .bytes))
 
 pub decode-determined : DeterminedWith 2 decode-kinds.ps decode-kinds.r (λ κs end. end .1 .0 .now) decode-reads.Post

@@ -27,7 +27,8 @@ pub inside : (first count : ℕ) → outsideMemory first count ≡ false → (fi
 unfolding outsideMemory
 inside first count e = both (ltb 31 first) (ltb 32 (first + count)) refl refl e
   where
-    both : (a b : Bool) → ltb 31 first ≡ a → ltb 32 (first + count) ≡ b → (a || b) ≡ false → (first ≤ 31) × (first + count ≤ 32)
+    both : (a b : Bool) → ltb 31 first ≡ a → ltb 32 (first + count) ≡ b → (a || b) ≡ false
+        → (first ≤ 31) × (first + count ≤ 32)
     both true b p q e = absurd (true≢false e)
     both false true p q e = absurd (true≢false e)
     both false false p q e = (ltb-false 31 first p, ltb-false 32 (first + count) q)

@@ -8,7 +8,9 @@ use lib.ListN.{length, drop, getD, drop-of-length-le}
 use lib.Seq.{drop-cons}
 use Rattle.ground.specs.Bits.{bitNumber}
 use Rattle.ground.specs.Values.{values, agree}
-use Rattle.driver.specs.Streams.{sendBits, readBit, closing, nibbleBits, commandBits, sendNibbles, readNibbles, sendCommands, writeStream, readStream, commandStream, nibbleOf, decoded}
+use Rattle.driver.specs.Streams.{sendBits, readBit, closing, nibbleBits, commandBits}
+use Rattle.driver.specs.Streams.{sendNibbles, readNibbles, sendCommands}
+use Rattle.driver.specs.Streams.{writeStream, readStream, commandStream, nibbleOf, decoded}
 
 -- ---- lengths
 
@@ -55,7 +57,8 @@ drop-next list i h = rw add-one (drop-cons list i 0 h)
 -- of a list that is sent item by item
 module _ (send : List ℕ → List ℕ) (item : ℕ → List ℕ)
     (sends : (value : ℕ) (rest : List ℕ) → send (value ∷ rest) ≡ item value ++ send rest) where
-  send-next : (list : List ℕ) (i : ℕ) → i < length list → send (drop i list) ≡ item (getD list i 0) ++ send (drop (i + 1) list)
+  send-next : (list : List ℕ) (i : ℕ) → i < length list
+      → send (drop i list) ≡ item (getD list i 0) ++ send (drop (i + 1) list)
   send-next list i h = ap send (drop-next list i h) ∙ sends (getD list i 0) (drop (i + 1) list)
 
 pub nibbles-next : (nibbles : List ℕ) (i : ℕ) → i < length nibbles
@@ -72,7 +75,8 @@ nibbles-end nibbles i h = ap sendNibbles (drop-of-length-le nibbles h)
 pub commands-end : (codes : List ℕ) (i : ℕ) → length codes ≤ i → sendCommands (drop i codes) ≡ closing
 commands-end codes i h = ap sendCommands (drop-of-length-le codes h)
 
-pub reads-next : (count : ℕ) → 0 < count → readNibbles count ≡ (readBit ++ readBit ++ readBit ++ readBit) ++ readNibbles (count - 1)
+pub reads-next : (count : ℕ) → 0 < count
+    → readNibbles count ≡ (readBit ++ readBit ++ readBit ++ readBit) ++ readNibbles (count - 1)
 reads-next zero h = let no : ⊥ = omega arith in absurd no
 reads-next (suc count) h =
     let less : count ≡ suc count - 1 = omega arith in
@@ -94,7 +98,8 @@ decoded-next noted i nibble h e =
     let at2 : i + 1 + 1 ≡ i + 2 = omega arith in
     let at3 : i + 2 + 1 ≡ i + 3 = omega arith in
     let at4 : i + 3 + 1 ≡ i + 4 = omega arith in
-    let all : drop i noted ≡ getD noted i 0 ∷ getD noted (i + 1) 0 ∷ getD noted (i + 2) 0 ∷ getD noted (i + 3) 0 ∷ drop (i + 4) noted =
+    let all : drop i noted
+    ≡ getD noted i 0 ∷ getD noted (i + 1) 0 ∷ getD noted (i + 2) 0 ∷ getD noted (i + 3) 0 ∷ drop (i + 4) noted =
     cc in
     ap decoded all ∙ ap (λ (n : ℕ). n ∷ decoded (drop (i + 4) noted)) (sym e)
 
@@ -103,6 +108,23 @@ decoded-end noted i h = ap decoded (drop-of-length-le noted h)
 
 -- ---- read back
 
--- the four bits of a nibble, D0 first, are noted as the nibble again
-pub nibble-decoded : (nibble : ℕ) → nibble < 16 → decoded (map bitNumber (nibbleBits nibble)) ≡ nibble ∷ []
-nibble-decoded = agree (λ nibble. decoded (map bitNumber (nibbleBits nibble))) (λ nibble. nibble ∷ []) 16 refl
+-- what the host notes of a nibble that it reads, and of many
+abbrev pub notesOf : ℕ → List ℕ
+notesOf nibble = map bitNumber (nibbleBits nibble)
+
+abbrev pub allNotes : List ℕ → List ℕ
+allNotes [] = []
+allNotes (nibble ∷ nibbles) = notesOf nibble ++ allNotes nibbles
+
+-- the four bits of a nibble, D0 first, are decoded as the nibble again
+pub nibble-decoded : (nibble : ℕ) → nibble < 16 → decoded (notesOf nibble) ≡ nibble ∷ []
+nibble-decoded = agree (λ nibble. decoded (notesOf nibble)) (λ nibble. nibble ∷ []) 16 refl
+
+-- and so are the bits of many
+pub nibbles-decoded : (nibbles : List ℕ) → ((k : ℕ) → k < length nibbles → getD nibbles k 0 < 16)
+    → decoded (allNotes nibbles) ≡ nibbles
+nibbles-decoded [] h = refl
+nibbles-decoded (nibble ∷ nibbles) h =
+    let rest = nibbles-decoded nibbles (λ k less. h (suc k) (omega arith)) in
+    ap (λ (one : List ℕ). one ++ decoded (allNotes nibbles)) (nibble-decoded nibble (h 0 (omega arith)))
+    ∙ ap (λ (more : List ℕ). nibble ∷ more) rest

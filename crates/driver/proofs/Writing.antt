@@ -26,7 +26,7 @@ pub wrote-none : (buffer : List ℕ) (at : ℕ) → Wrote buffer at [] buffer at
 wrote-none buffer at =
     record {
       cursor = sym (add-zero at);
-      buffer = sym (ap (λ (r : List ℕ). r ++ drop (at + 0) buffer) (append-nil (take at buffer)) ∙ rw add-zero (take-append-drop at buffer));
+      buffer = sym (simp (append-nil, add-zero) (take-append-drop at buffer));
     }
 
 -- a write leaves the buffer as long as it was
@@ -36,8 +36,8 @@ wrote-length {before} {bytes} {after} {at} {next} w h = ap length (w .buffer) �
 
 -- three and four writes, one after another
 module _ {a b c d : List ℕ} {x y z : List ℕ} {at k l m : ℕ} where
-  pub wrote-three : Wrote a at x b k → Wrote b k y c l → Wrote c l z d m → at + length x + length y + length z ≤ length a
-      → Wrote a at (x ++ y ++ z) d m
+  pub wrote-three : Wrote a at x b k → Wrote b k y c l → Wrote c l z d m
+      → at + length x + length y + length z ≤ length a → Wrote a at (x ++ y ++ z) d m
   wrote-three p q r h =
       wrote-then (x ++ y) z (wrote-then x y p q (omega arith)) r (omega (arith, length-append x y))
 
@@ -57,7 +57,8 @@ pub writing-starts : (before : List ℕ) (from : ℕ) (whole : List ℕ) → Wri
 writing-starts before from whole = record { done = []; wrote = wrote-none before from; joined = refl }
 
 module _ {before whole after : List ℕ} {from at : ℕ} (fits : from + length whole ≤ length before) where
-  writing-sum : (rest : List ℕ) (w : Writing before from whole after at rest) → length (w .done) + length rest ≡ length whole
+  writing-sum : (rest : List ℕ) (w : Writing before from whole after at rest)
+      → length (w .done) + length rest ≡ length whole
   writing-sum rest w = sym (length-append (w .done) rest) ∙ ap length (w .joined)
 
   -- the buffer is as long as it was
@@ -72,8 +73,8 @@ module _ {before whole after : List ℕ} {from at : ℕ} (fits : from + length w
       omega (arith, w .wrote .cursor)
 
   -- and so for its first part
-  pub writing-part : (part more : List ℕ) {rest : List ℕ} → Writing before from whole after at rest → rest ≡ part ++ more
-      → at + length part ≤ length after
+  pub writing-part : (part more : List ℕ) {rest : List ℕ} → Writing before from whole after at rest
+      → rest ≡ part ++ more → at + length part ≤ length after
   writing-part part more w e =
       let room = writing-room (part ++ more) (rw e at w) in omega (arith, length-append part more)
 
@@ -90,9 +91,10 @@ module _ {before whole after : List ℕ} {from at : ℕ} (fits : from + length w
       }
 
   -- nothing is left
-  pub writing-ends : {rest : List ℕ} → Writing before from whole after at rest → rest ≡ [] → Wrote before from whole after at
+  pub writing-ends : {rest : List ℕ} → Writing before from whole after at rest → rest ≡ []
+      → Wrote before from whole after at
   writing-ends w e =
-      let all : w .done ≡ whole = sym (append-nil (w .done)) ∙ ap (λ (l : List ℕ). w .done ++ l) (sym e) ∙ w .joined in
+      let all = sym (append-nil (w .done)) ∙ ap (λ (l : List ℕ). w .done ++ l) (sym e) ∙ w .joined in
       rw all at (w .wrote)
 
   -- the last part is written

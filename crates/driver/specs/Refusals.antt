@@ -6,7 +6,8 @@ use mathlib.Core.List.{List, [], _∷_}
 use lib.Dec.{eqb, ltb}
 use lib.ListN.{length}
 use Rattle.ground.specs.declared.Refusal.{Refusal}
-use Rattle.ground.specs.declared.Refusal.the-variants.{NothingAsked, OutOfRange, NibbleAbove, UndefinedCommand, OutputShort, NotedCount, NotedAbove}
+use Rattle.ground.specs.declared.Refusal.the-variants.{NothingAsked, OutOfRange, NibbleAbove, UndefinedCommand}
+use Rattle.ground.specs.declared.Refusal.the-variants.{OutputShort, NotedCount, NotedAbove}
 use Rattle.ground.specs.Refusals.{refusalNumber, refusalPlace}
 use Rattle.ground.specs.Places.{lowest, somewhere}
 use Rattle.ground.specs.Written.{over}
@@ -59,6 +60,7 @@ refusedIf test why otherwise = cond test (Refused why) otherwise
 abbrev pub fitted : List ℕ → ℕ → Answer
 fitted stream room = refusedIf (ltb room (length stream)) OutputShort (Written (length stream))
 
+-- What a write from `first` on is answered, its tests in the table's order.
 unfoldable pub writeAnswer : ℕ → List ℕ → ℕ → Answer
 writeAnswer first nibbles room =
     refusedIf (nothing (length nibbles)) NothingAsked
@@ -66,12 +68,14 @@ writeAnswer first nibbles room =
     (refusedIf (somewhere nibbleFault nibbles) (NibbleAbove (lowest nibbleFault nibbles))
     (fitted (writeStream first nibbles) room)))
 
+-- What a read is answered: it has no nibbles that could be at fault.
 unfoldable pub readAnswer : ℕ → ℕ → ℕ → Answer
 readAnswer first count room =
     refusedIf (nothing count) NothingAsked
     (refusedIf (outsideMemory first count) OutOfRange
     (fitted (readStream first count) room))
 
+-- What commands are answered.
 unfoldable pub commandAnswer : List ℕ → ℕ → Answer
 commandAnswer codes room =
     refusedIf (nothing (length codes)) NothingAsked
@@ -79,6 +83,7 @@ commandAnswer codes room =
     (refusedIf (somewhere commandFault codes) (UndefinedCommand (lowest commandFault codes))
     (fitted (commandStream codes) room)))
 
+-- What noted bytes are answered: a byte is written for each four.
 unfoldable pub decodeAnswer : List ℕ → ℕ → Answer
 decodeAnswer noted room =
     refusedIf (miscounted (length noted)) NotedCount

@@ -9,6 +9,7 @@ use Rattle.ground.specs.Bits.{bitNumber, bitAt}
 abbrev pub sendBit : Bool → List ℕ
 sendBit bit = (4 + 8 * bitNumber bit) ∷ (6 + 8 * bitNumber bit) ∷ []
 
+-- Bits are sent one after another.
 abbrev pub sendBits : List Bool → List ℕ
 sendBits [] = []
 sendBits (bit ∷ bits) = sendBit bit ++ sendBits bits

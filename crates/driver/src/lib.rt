@@ -6,9 +6,9 @@ ghost use lib.ListN.{length};
 ghost use Rattle.driver.specs.Streams.{writeStream, readStream, commandStream, decoded};
 ghost use Rattle.driver.specs.Refusals.{Does, writeAnswer, readAnswer, commandAnswer, decodeAnswer};
 
+mod faults; // faults.rt: what a call is refused for
 mod notes; // notes.rt: noted bits made nibbles
 mod stream; // stream.rt: streams written into a buffer
-mod faults; // faults.rt: what a call is refused for
 
 use ground::Refusal;
 
@@ -18,7 +18,8 @@ pub enum Answer {
     Refused(Refusal),
 }
 
-// The stream that writes nibbles from an address on.
+// The stream that writes nibbles from the address `first` on: 21 bytes, and 8 for each nibble. Refused, in this order:
+// no nibble; addresses outside the 32; a nibble above 15, with its place; a buffer too short.
 pub fn write(first: usize, nibbles: &[u8], out: &mut [u8]) -> Answer
     ensures { λ r. ⌜ Does
         (writeAnswer first (now (nibbles .entry)) (length (now (out .entry))))
@@ -42,7 +43,8 @@ pub fn write(first: usize, nibbles: &[u8], out: &mut [u8]) -> Answer
     Answer::Written(sent)
 }
 
-// The stream that reads nibbles from an address on.
+// The stream that reads `count` nibbles from the address `first` on: 21 bytes, and 8 for each nibble. Refused, in this
+// order: no nibble; addresses outside the 32; a buffer too short.
 pub fn read(first: usize, count: usize, out: &mut [u8]) -> Answer
     ensures { λ r. ⌜ Does
         (readAnswer first count (length (now (out .entry))))
@@ -62,7 +64,8 @@ pub fn read(first: usize, count: usize, out: &mut [u8]) -> Answer
     Answer::Written(asked)
 }
 
-// The stream that gives commands, each by the byte of its upper eight bits.
+// The stream that gives commands, each by the byte of its upper eight bits: 9 bytes, and 18 for each command. Refused,
+// in this order: no command; more than 32; an undefined one, with its place; a buffer too short.
 pub fn commands(codes: &[u8], out: &mut [u8]) -> Answer
     ensures { λ r. ⌜ Does
         (commandAnswer (now (codes .entry)) (length (now (out .entry))))
@@ -86,7 +89,8 @@ pub fn commands(codes: &[u8], out: &mut [u8]) -> Answer
     Answer::Written(given)
 }
 
-// The nibbles that a read noted: four noted bits, D0 first, make one.
+// The nibbles that a read noted, a byte for each: four noted bits, D0 first, make one. Refused, in this order: a number
+// of noted bytes that is none of 4, 8 .. 128; a noted byte above 1, with its place; a buffer too short.
 pub fn decode(noted: &[u8], out: &mut [u8]) -> Answer
     ensures { λ r. ⌜ Does
         (decodeAnswer (now (noted .entry)) (length (now (out .entry))))

@@ -17,7 +17,9 @@ fn nibble_of(d0: u8, d1: u8, d2: u8, d3: u8) -> u8
 
 // A nibble for each four noted bits.
 pub(crate) fn put_decoded(out: &mut [u8], noted: &[u8]) -> usize
-    requires { ⌜ (length (now noted) % 4 ≡ 0) × (length (now noted) ≤ lowest (ltb 1) (now noted)) × (length (decoded (now noted)) ≤ length (now out)) ⌝ }
+    requires { ⌜ (length (now noted) % 4 ≡ 0)
+        × (length (now noted) ≤ lowest (ltb 1) (now noted))
+        × (length (decoded (now noted)) ≤ length (now out)) ⌝ }
     ensures { λ r. ⌜ Wrote (now (out .entry)) 0 (decoded (now (noted .entry))) (now (out .exit)) r ⌝ }
 {
     let mut at: usize = 0;

@@ -3,7 +3,10 @@ ghost use Prim.Native.Nat.{_+_, _*_, _≤_, _<_};
 ghost use mathlib.Core.List.{[], _∷_, _++_};
 ghost use lib.ListN.{length};
 ghost use Rattle.ground.specs.Written.{Wrote};
-ghost use Rattle.driver.specs.Streams.{sendBit, sendBits, readBit, opening, closing, addressBits, nibbleBits, commandBits, sendNibbles, readNibbles, sendCommands, writeStream, readStream, commandStream};
+ghost use Rattle.driver.specs.Streams.{sendBit, sendBits, readBit, opening, closing};
+ghost use Rattle.driver.specs.Streams.{addressBits, nibbleBits, commandBits};
+ghost use Rattle.driver.specs.Streams.{sendNibbles, readNibbles, sendCommands};
+ghost use Rattle.driver.specs.Streams.{writeStream, readStream, commandStream};
 ghost use Rattle.driver.specs.Weights.{weighed, threeBits, lastBits};
 
 // Two samples.
@@ -89,7 +92,9 @@ fn put_command(out: &mut [u8], at: usize, code: u8) -> usize
 // The start of a write or a read: the frame opens, three bits of ID, six of address, A5 first.
 fn put_head(out: &mut [u8], id: u8, first: u8) -> usize
     requires { ⌜ 20 ≤ length (now out) ⌝ }
-    ensures { λ r. ⌜ Wrote (now (out .entry)) 0 (opening ++ sendBits (threeBits 1 id ++ addressBits first)) (now (out .exit)) r ⌝ }
+    ensures { λ r. ⌜ Wrote
+        (now (out .entry)) 0 (opening ++ sendBits (threeBits 1 id ++ addressBits first))
+        (now (out .exit)) r ⌝ }
 {
     let id_at = put_pair(out, 0, 15, 14);
     let high_at = put_three(out, id_at, id, 1);

@@ -1,4 +1,5 @@
--- `driver::commands` meets its contract: each refusal is the first that applies, and else the whole stream is written. Assumes nothing.
+-- `driver::commands` meets its contract: each refusal is the first that applies, and else the whole stream is written.
+-- Assumes nothing.
 use mathlib.Core.Path.{_∙_, sym}
 use Prim.Native.Nat.{_+_, _*_}
 use native.Mathlib.Omega.{arith}
@@ -13,7 +14,9 @@ use Rattle.driver.proofs.commands.Tie as tie
 
 returns : tie.Need-returns
 unfolding commandAnswer tooMany
-returns c = refuses (simp (eq-eqb _ 0 (c .if1 .taken)))
+returns c =
+    let count = length (c .before .before .before .args .codes .now) in
+    refuses (simp (eq-eqb count 0 (omega arith)))
 
 returns-2 : tie.Need-returns-2
 unfolding commandAnswer tooMany
@@ -27,11 +30,11 @@ first-undefined-requires c κs = search needs
 returns-3 : tie.Need-returns-3
 unfolding commandAnswer tooMany
 returns-3 c =
-    let count = length (c .before .before .before .before .before .before .args .codes .now) in
+    let some = c .before .before .before in
     refuses
     (simp (
-      ne-eqb _ 0 (c .before .before .before .if1 .left),
-      le-ltb 32 count (omega arith),
+      ne-eqb _ 0 (some .if1 .left),
+      le-ltb 32 (length (some .before .before .before .args .codes .now)) (omega arith),
       sym (c .before .first-undefined .ensures),
       lt-ltb _ _ (c .if3 .taken),
     ))
@@ -45,11 +48,13 @@ add-if4 c = search needs
 returns-4 : tie.Need-returns-4
 unfolding commandAnswer tooMany
 returns-4 c =
-    let count = length (c .before .before .before .before .before .before .before .args .codes .now) in
-    let room = length (c .before .before .before .before .before .before .before .args .out .now) in
+    let some = c .before .before .before .before in
+    let start = some .before .before .before in
+    let count = length (start .args .codes .now) in
+    let room = length (start .args .out .now) in
     refuses
     (simp (
-      ne-eqb _ 0 (c .before .before .before .before .if1 .left),
+      ne-eqb _ 0 (some .if1 .left),
       le-ltb 32 count (omega arith),
       sym (c .before .before .first-undefined .ensures),
       le-ltb _ _ (c .before .if3 .left),
@@ -66,19 +71,23 @@ same-length c = search needs
 returns-5 : tie.Need-returns-5
 unfolding commandAnswer tooMany
 returns-5 c =
-    let count = length (c .before .before .before .before .before .before .before .before .before .before .before .args .codes .now) in
-    let room = length (c .before .before .before .before .before .before .before .before .before .before .before .args .out .now) in
+    let called = c .before .before in
+    let clean = called .before .before .before in
+    let some = clean .before .before .before in
+    let start = some .before .before .before in
+    let count = length (start .args .codes .now) in
+    let room = length (start .args .out .now) in
     succeeds
     (simp (
-      ne-eqb _ 0 (c .before .before .before .before .before .before .before .before .if1 .left),
+      ne-eqb _ 0 (some .if1 .left),
       le-ltb 32 count (omega arith),
-      sym (c .before .before .before .before .before .before .first-undefined .ensures),
-      le-ltb _ _ (c .before .before .before .before .before .if3 .left),
+      sym (clean .before .first-undefined .ensures),
+      le-ltb _ _ (clean .if3 .left),
       commands-length,
       le-ltb room (9 + 18 * count) (omega arith),
     ))
-    (omega (arith, c .before .before .whole-commands .ensures .cursor))
-    (c .before .before .whole-commands .ensures .buffer)
+    (omega (arith, called .whole-commands .ensures .cursor))
+    (called .whole-commands .ensures .buffer)
 
 pub commands-spec : {M : Type 1} → statement M
 commands-spec =

@@ -1,4 +1,5 @@
--- `driver::decode` meets its contract: each refusal is the first that applies, and else a nibble is written for each four noted bits. Assumes nothing.
+-- `driver::decode` meets its contract: each refusal is the first that applies, and else every nibble is written.
+-- Assumes nothing.
 use mathlib.Core.Path.{_∙_, sym}
 use Prim.Native.Nat.{_/_}
 use native.Mathlib.Omega.{arith}
@@ -24,9 +25,10 @@ first-above-requires c κs = search needs
 returns-2 : tie.Need-returns-2
 unfolding decodeAnswer
 returns-2 c =
+    let counted = c .before .before in
     refuses
     (simp (
-      sym (c .before .before .before .miscounts .ensures) ∙ c .before .before .if1 .left,
+      sym (counted .before .miscounts .ensures) ∙ counted .if1 .left,
       sym (c .before .first-above .ensures),
       lt-ltb _ _ (c .if2 .taken),
     ))
@@ -34,11 +36,13 @@ returns-2 c =
 returns-3 : tie.Need-returns-3
 unfolding decodeAnswer
 returns-3 c =
-    let count = length (c .before .before .before .before .before .before .before .args .noted .now) in
-    let room = length (c .before .before .before .before .before .before .before .args .out .now) in
+    let counted = c .before .before .before in
+    let start = counted .before .before .before .before in
+    let count = length (start .args .noted .now) in
+    let room = length (start .args .out .now) in
     refuses
     (simp (
-      sym (c .before .before .before .before .miscounts .ensures) ∙ c .before .before .before .if1 .left,
+      sym (counted .before .miscounts .ensures) ∙ counted .if1 .left,
       sym (c .before .before .first-above .ensures),
       le-ltb _ _ (c .before .if2 .left),
       decoded-length,
@@ -47,8 +51,9 @@ returns-3 c =
 
 put-decoded-requires : tie.Need-put-decoded-requires
 put-decoded-requires c κs =
-    let noted = c .before .before .before .before .before .before .before .before .args .noted .now in (
-      in-fours (length noted) (sym (c .before .before .before .before .before .miscounts .ensures) ∙ c .before .before .before .before .if1 .left),
+    let counted = c .before .before .before .before in
+    let noted = counted .before .before .before .before .args .noted .now in (
+      in-fours (length noted) (sym (counted .before .miscounts .ensures) ∙ counted .if1 .left),
       omega (arith, c .before .before .before .first-above .ensures),
       omega (arith, decoded-length noted),
     )
@@ -59,18 +64,22 @@ same-length c = search needs
 returns-4 : tie.Need-returns-4
 unfolding decodeAnswer
 returns-4 c =
-    let count = length (c .before .before .before .before .before .before .before .before .before .before .before .args .noted .now) in
-    let room = length (c .before .before .before .before .before .before .before .before .before .before .before .args .out .now) in
+    let called = c .before .before in
+    let clean = called .before .before .before in
+    let counted = clean .before .before in
+    let start = counted .before .before .before .before in
+    let count = length (start .args .noted .now) in
+    let room = length (start .args .out .now) in
     succeeds
     (simp (
-      sym (c .before .before .before .before .before .before .before .before .miscounts .ensures) ∙ c .before .before .before .before .before .before .before .if1 .left,
-      sym (c .before .before .before .before .before .before .first-above .ensures),
-      le-ltb _ _ (c .before .before .before .before .before .if2 .left),
+      sym (counted .before .miscounts .ensures) ∙ counted .if1 .left,
+      sym (clean .before .first-above .ensures),
+      le-ltb _ _ (clean .if2 .left),
       decoded-length,
       le-ltb room (count / 4) (omega arith),
     ))
-    (omega (arith, c .before .before .put-decoded .ensures .cursor))
-    (c .before .before .put-decoded .ensures .buffer)
+    (omega (arith, called .put-decoded .ensures .cursor))
+    (called .put-decoded .ensures .buffer)
 
 pub decode-spec : {M : Type 1} → statement M
 decode-spec =

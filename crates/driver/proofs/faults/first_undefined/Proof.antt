@@ -5,7 +5,8 @@ use native.Mathlib.Omega.{arith}
 use borrow.Author.Needs.{needs}
 use lib.ListN.{length}
 use Rattle.driver.specs.Refusals.{commandFault}
-use Rattle.ground.proofs.PlacesLaws.{Searched, searched-starts, searched-passes, searched-finds, searched-ends}
+use Rattle.ground.proofs.PlacesLaws.{Searched, searched-starts, searched-passes}
+use Rattle.ground.proofs.PlacesLaws.{searched-finds, searched-ends}
 use Rattle.driver.proofs.faults.first_undefined.Statement.{statement}
 use Rattle.driver.proofs.faults.first_undefined.Tie as tie
 
@@ -26,7 +27,8 @@ is-undefined-requires c κs = search needs
 
 returns : tie.Need-returns Inv-loop μ-loop
 returns c =
-    searched-finds (c .before .before .before .before .loop .inv) (c .before .before .before .loop-test .taken) (sym (c .before .is-undefined .ensures) ∙ c .if1 .taken)
+    let turn = c .before .before .before .before in
+    searched-finds (turn .loop .inv) (omega arith) (sym (c .before .is-undefined .ensures) ∙ c .if1 .taken)
 
 add-i : tie.Need-add-i Inv-loop μ-loop
 add-i c = search needs
@@ -36,7 +38,8 @@ loop-less c = search needs
 
 loop-again : tie.Need-loop-again Inv-loop μ-loop
 loop-again c =
-    searched-passes (c .before .before .before .before .loop .inv) (c .before .before .before .loop-test .taken) (sym (c .before .is-undefined .ensures) ∙ c .if1 .left)
+    let turn = c .before .before .before .before in
+    searched-passes (turn .loop .inv) (omega arith) (sym (c .before .is-undefined .ensures) ∙ c .if1 .left)
 
 returns-2 : tie.Need-returns-2 Inv-loop μ-loop
 returns-2 c = searched-ends (c .before .loop .inv) (c .loop-test .left)

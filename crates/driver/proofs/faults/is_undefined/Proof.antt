@@ -1,4 +1,5 @@
--- `driver::faults::is_undefined` meets its contract: the meaning of the nine-bit code, with its last bit 0, decides. Assumes nothing.
+-- `driver::faults::is_undefined` meets its contract: the meaning of the nine-bit code, with its last bit 0, decides.
+-- Assumes nothing.
 use mathlib.Core.Path.{_∙_, sym}
 use borrow.Author.Needs.{needs}
 use Rattle.driver.specs.Refusals.{commandFault}

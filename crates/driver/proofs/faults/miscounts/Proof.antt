@@ -7,7 +7,7 @@ use Rattle.driver.proofs.faults.miscounts.Tie as tie
 
 returns : tie.Need-returns
 unfolding miscounted
-returns c = simp (eq-eqb _ 0 (c .if1 .taken))
+returns c = simp (eq-eqb (c .before .args .count) 0 (omega arith))
 
 returns-2 : tie.Need-returns-2
 unfolding miscounted

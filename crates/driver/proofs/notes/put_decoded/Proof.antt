@@ -1,4 +1,5 @@
--- `driver::notes::put_decoded` meets its contract: what is written so far and the noted bits from `i` on make the whole. Assumes nothing.
+-- `driver::notes::put_decoded` meets its contract: the bytes so far and the noted bits from `i` on make the whole.
+-- Assumes nothing.
 use mathlib.Core.Path.{_≡_, _∙_}
 use mathlib.Core.List.{[], _∷_}
 use Prim.Native.Nat.{_+_, _-_, _%_, _≤_}
@@ -8,7 +9,8 @@ use lib.ListN.{length, drop, getD, length-set}
 use Rattle.driver.specs.Streams.{decoded}
 use Rattle.driver.proofs.StreamsLaws.{decoded-next, decoded-end}
 use Rattle.ground.proofs.PlacesLaws.{none-above}
-use Rattle.driver.proofs.Writing.{Writing, wrote-one, writing-starts, writing-same, writing-part, writing-more, writing-ends}
+use Rattle.driver.proofs.Writing.{Writing, wrote-one, writing-starts, writing-same}
+use Rattle.driver.proofs.Writing.{writing-part, writing-more, writing-ends}
 use Rattle.driver.proofs.notes.put_decoded.Statement.{statement}
 use Rattle.driver.proofs.notes.put_decoded.Tie as tie
 
@@ -45,25 +47,33 @@ shared-slice-read-nibble-of-4 c = search needs
 
 nibble-of-requires : tie.Need-nibble-of-requires Inv-loop μ-loop
 nibble-of-requires c κs =
-    let noted = c .before .before .before .before .before .before .before .before .args .noted .now in
-    let i = c .before .before .before .before .before .loop .i in
+    let turn = c .before .before .before .before .before in
+    let noted = turn .before .before .before .args .noted .now in
+    let i = turn .loop .i in
     let bit = none-above 1 noted (omega arith) in
     (bit i (omega arith), bit (i + 1) (omega arith), bit (i + 2) (omega arith), bit (i + 3) (omega arith))
 
 slice-write-out : tie.Need-slice-write-out Inv-loop μ-loop
 slice-write-out c =
-    let noted = c .before .before .before .before .before .before .before .before .before .args .noted .now in
-    let i = c .before .before .before .before .before .before .loop .i in
-    let next = decoded-next noted i (c .nibble-of .result) (omega arith) (c .nibble-of .ensures) in
-    omega (arith, writing-part (omega arith) (c .nibble-of .result ∷ []) (decoded (drop (i + 4) noted)) (c .before .before .before .before .before .before .loop .inv .2) next)
+    let turn = c .before .before .before .before .before .before in
+    let noted = turn .before .before .before .args .noted .now in
+    let i = turn .loop .i in
+    let nibble = c .nibble-of .result in
+    let more = decoded (drop (i + 4) noted) in
+    let next = decoded-next noted i nibble (omega arith) (c .nibble-of .ensures) in
+    let room = writing-part (omega arith) (nibble ∷ []) more (turn .loop .inv .2) next in
+    omega arith
 
 add-at : tie.Need-add-at Inv-loop μ-loop
 add-at c =
-    let noted = c .before .before .before .before .before .before .before .before .before .args .noted .now in
-    let i = c .before .before .before .before .before .before .loop .i in
-    let next = decoded-next noted i (c .nibble-of .result) (omega arith) (c .nibble-of .ensures) in
-    let room = writing-part (omega arith) (c .nibble-of .result ∷ []) (decoded (drop (i + 4) noted)) (c .before .before .before .before .before .before .loop .inv .2) next in
-    omega (arith, writing-same (omega arith) (c .before .before .before .before .before .before .loop .inv .2))
+    let turn = c .before .before .before .before .before .before in
+    let noted = turn .before .before .before .args .noted .now in
+    let i = turn .loop .i in
+    let nibble = c .nibble-of .result in
+    let more = decoded (drop (i + 4) noted) in
+    let next = decoded-next noted i nibble (omega arith) (c .nibble-of .ensures) in
+    let room = writing-part (omega arith) (nibble ∷ []) more (turn .loop .inv .2) next in
+    omega (arith, writing-same (omega arith) (turn .loop .inv .2))
 
 add-i : tie.Need-add-i Inv-loop μ-loop
 add-i c = search needs
@@ -73,24 +83,24 @@ loop-less c = search needs
 
 loop-again : tie.Need-loop-again Inv-loop μ-loop
 loop-again c =
-    let noted = c .before .before .before .before .before .before .before .before .before .args .noted .now in
-    let i = c .before .before .before .before .before .before .loop .i in
-    let next = decoded-next noted i (c .nibble-of .result) (omega arith) (c .nibble-of .ensures) in
-    let room = writing-part (omega arith) (c .nibble-of .result ∷ []) (decoded (drop (i + 4) noted)) (c .before .before .before .before .before .before .loop .inv .2) next in (
-      omega arith,
-      omega arith,
-      writing-more (omega arith) (c .nibble-of .result ∷ []) (decoded (drop (i + 4) noted)) (c .before .before .before .before .before .before .loop .inv .2) next (wrote-one _ _ _ room),
-    )
+    let turn = c .before .before .before .before .before .before in
+    let noted = turn .before .before .before .args .noted .now in
+    let i = turn .loop .i in
+    let nibble = c .nibble-of .result in
+    let more = decoded (drop (i + 4) noted) in
+    let next = decoded-next noted i nibble (omega arith) (c .nibble-of .ensures) in
+    let room = writing-part (omega arith) (nibble ∷ []) more (turn .loop .inv .2) next in
+    let wrote = wrote-one _ _ _ room in
+    (omega arith, omega arith, writing-more (omega arith) (nibble ∷ []) more (turn .loop .inv .2) next wrote)
 
 same-length : tie.Need-same-length Inv-loop μ-loop
 same-length c = writing-same (omega arith) (c .before .loop .inv .2)
 
 returns : tie.Need-returns Inv-loop μ-loop
 returns c =
-    writing-ends
-    (omega arith)
-    (c .before .loop .inv .2)
-    (decoded-end (c .before .before .before .before .args .noted .now) (c .before .loop .i) (c .loop-test .left))
+    let end = c .before in
+    let left = decoded-end (end .before .before .before .args .noted .now) (end .loop .i) (omega arith) in
+    writing-ends (omega arith) (end .loop .inv .2) left
 
 pub put-decoded-spec : {M : Type 1} → statement M
 put-decoded-spec =

@@ -26,7 +26,9 @@ same-length : tie.Need-same-length
 same-length c = search needs
 
 returns : tie.Need-returns
-returns c = wrote-bit (c .before .before .before .before .before .args .weight) (c .before .before .before .before .before .args .number) (c .before .before .put-pair .ensures)
+returns c =
+    let start = c .before .before .before .before .before in
+    wrote-bit (start .args .weight) (start .args .number) (c .before .before .put-pair .ensures)
 
 pub put-bit-spec : {M : Type 1} → statement M
 put-bit-spec =

@@ -19,11 +19,10 @@ same-length c = search needs
 
 returns : tie.Need-returns
 returns c =
-    wrote-three
-    (c .before .before .before .before .before .before .before .before .before .before .put-three .ensures)
-    (c .before .before .before .before .before .before .put-three2 .ensures)
-    (c .before .before .put-last .ensures)
-    (omega arith)
+    let third = c .before .before in
+    let second = third .before .before .before .before in
+    let first = second .before .before .before .before in
+    wrote-three (first .put-three .ensures) (second .put-three2 .ensures) (third .put-last .ensures) (omega arith)
 
 pub put-command-spec : {M : Type 1} → statement M
 put-command-spec =

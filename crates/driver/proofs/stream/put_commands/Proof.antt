@@ -1,4 +1,5 @@
--- `driver::stream::put_commands` meets its contract: what is written so far and the commands from `i` on make the whole. Assumes nothing.
+-- `driver::stream::put_commands` meets its contract: the bytes so far and the commands from `i` on make the whole.
+-- Assumes nothing.
 use mathlib.Core.List.{[]}
 use Prim.Native.Nat.{_+_, _-_, _≤_}
 use native.Mathlib.Omega.{arith}
@@ -6,7 +7,8 @@ use borrow.Author.Needs.{needs}
 use lib.ListN.{length, drop, getD}
 use Rattle.driver.specs.Streams.{sendBits, closing, commandBits, sendCommands}
 use Rattle.driver.proofs.StreamsLaws.{commands-next, commands-end}
-use Rattle.driver.proofs.Writing.{Writing, writing-starts, writing-same, writing-part, writing-more, writing-last}
+use Rattle.driver.proofs.Writing.{Writing, writing-starts, writing-same, writing-part}
+use Rattle.driver.proofs.Writing.{writing-more, writing-last}
 use Rattle.driver.proofs.stream.put_commands.Statement.{statement}
 use Rattle.driver.proofs.stream.put_commands.Tie as tie
 
@@ -25,14 +27,13 @@ shared-slice-read-put-command c = search needs
 
 put-command-requires : tie.Need-put-command-requires Inv-loop μ-loop
 put-command-requires c κs =
-    let codes = c .before .before .before .before .before .before .args .codes .now in
-    let i = c .before .before .before .loop .i in
-    writing-part
-    (c .before .before .before .before .before .before .pre)
-    (sendBits (commandBits (getD codes i 0)))
-    (sendCommands (drop (i + 1) codes))
-    (c .before .before .before .loop .inv .1)
-    (commands-next codes i (c .before .before .loop-test .taken))
+    let turn = c .before .before .before in
+    let start = turn .before .before .before in
+    let codes = start .args .codes .now in
+    let i = turn .loop .i in
+    let part = sendBits (commandBits (getD codes i 0)) in
+    let next = commands-next codes i (omega arith) in
+    writing-part (start .pre) part (sendCommands (drop (i + 1) codes)) (turn .loop .inv .1) next
 
 add-i : tie.Need-add-i Inv-loop μ-loop
 add-i c = search needs
@@ -42,34 +43,36 @@ loop-less c = search needs
 
 loop-again : tie.Need-loop-again Inv-loop μ-loop
 loop-again c =
-    let codes = c .before .before .before .before .before .before .before .before .before .args .codes .now in
-    let i = c .before .before .before .before .before .before .loop .i in (
-      omega arith,
-      writing-more
-          (c .before .before .before .before .before .before .before .before .before .pre)
-          (sendBits (commandBits (getD codes i 0)))
-          (sendCommands (drop (i + 1) codes))
-          (c .before .before .before .before .before .before .loop .inv .1)
-          (commands-next codes i (c .before .before .before .before .before .loop-test .taken))
-          (c .before .before .put-command .ensures),
-    )
+    let called = c .before .before in
+    let turn = called .before .before .before .before in
+    let start = turn .before .before .before in
+    let codes = start .args .codes .now in
+    let i = turn .loop .i in
+    let part = sendBits (commandBits (getD codes i 0)) in
+    let more = sendCommands (drop (i + 1) codes) in
+    let next = commands-next codes i (omega arith) in
+    (omega arith, writing-more (start .pre) part more (turn .loop .inv .1) next (called .put-command .ensures))
 
 put-closing-requires : tie.Need-put-closing-requires Inv-loop μ-loop
 put-closing-requires c κs =
-    let left = commands-end (c .before .before .before .before .before .args .codes .now) (c .before .before .loop .i) (c .before .loop-test .left) in
-    omega (arith, writing-part (c .before .before .before .before .before .pre) closing [] (c .before .before .loop .inv .1) left)
+    let end = c .before .before in
+    let start = end .before .before .before in
+    let left = commands-end (start .args .codes .now) (end .loop .i) (omega arith) in
+    omega (arith, writing-part (start .pre) closing [] (end .loop .inv .1) left)
 
 same-length : tie.Need-same-length Inv-loop μ-loop
-same-length c = omega (arith, writing-same (c .before .before .before .before .before .before .before .before .pre) (c .before .before .before .before .before .loop .inv .1))
+same-length c =
+    let end = c .before .before .before .before .before in
+    let start = end .before .before .before in
+    omega (arith, writing-same (start .pre) (end .loop .inv .1))
 
 returns : tie.Need-returns Inv-loop μ-loop
 returns c =
-    writing-last
-    (c .before .before .before .before .before .before .before .before .pre)
-    closing
-    (c .before .before .before .before .before .loop .inv .1)
-    (commands-end (c .before .before .before .before .before .before .before .before .args .codes .now) (c .before .before .before .before .before .loop .i) (c .before .before .before .before .loop-test .left))
-    (c .before .before .put-closing .ensures)
+    let closed = c .before .before in
+    let end = closed .before .before .before in
+    let start = end .before .before .before in
+    let left = commands-end (start .args .codes .now) (end .loop .i) (omega arith) in
+    writing-last (start .pre) closing (end .loop .inv .1) left (closed .put-closing .ensures)
 
 pub put-commands-spec : {M : Type 1} → statement M
 put-commands-spec =

@@ -1,4 +1,5 @@
--- `driver::stream::put_head` meets its contract: the opening, the ID and two halves of the address, one after another. Assumes nothing.
+-- `driver::stream::put_head` meets its contract: the opening, the ID and two halves of the address, one after another.
+-- Assumes nothing.
 use native.Mathlib.Omega.{arith}
 use Rattle.driver.proofs.Writing.{wrote-four}
 use borrow.Author.Needs.{needs}
@@ -22,10 +23,12 @@ same-length c = search needs
 
 returns : tie.Need-returns
 returns c =
+    let third = c .before .before .before .before .before .before in
+    let second = third .before .before .before .before in
     wrote-four
-    (c .before .before .before .before .before .before .before .before .before .before .before .before .before .before .put-pair .ensures)
-    (c .before .before .before .before .before .before .before .before .before .before .put-three .ensures)
-    (c .before .before .before .before .before .before .put-three2 .ensures)
+    (second .before .before .before .before .put-pair .ensures)
+    (second .put-three .ensures)
+    (third .put-three2 .ensures)
     (c .before .before .put-three3 .ensures)
     (omega arith)
 

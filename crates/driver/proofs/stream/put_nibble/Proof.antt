@@ -22,10 +22,12 @@ same-length c = search needs
 
 returns : tie.Need-returns
 returns c =
+    let third = c .before .before .before .before .before .before in
+    let second = third .before .before .before .before in
     wrote-four
-    (c .before .before .before .before .before .before .before .before .before .before .before .before .before .before .put-bit .ensures)
-    (c .before .before .before .before .before .before .before .before .before .before .put-bit2 .ensures)
-    (c .before .before .before .before .before .before .put-bit3 .ensures)
+    (second .before .before .before .before .put-bit .ensures)
+    (second .put-bit2 .ensures)
+    (third .put-bit3 .ensures)
     (c .before .before .put-bit4 .ensures)
     (omega arith)
 

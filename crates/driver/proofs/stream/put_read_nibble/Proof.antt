@@ -22,10 +22,12 @@ same-length c = search needs
 
 returns : tie.Need-returns
 returns c =
+    let third = c .before .before .before .before .before .before in
+    let second = third .before .before .before .before in
     wrote-four
-    (c .before .before .before .before .before .before .before .before .before .before .before .before .before .before .put-pair .ensures)
-    (c .before .before .before .before .before .before .before .before .before .before .put-pair2 .ensures)
-    (c .before .before .before .before .before .before .put-pair3 .ensures)
+    (second .before .before .before .before .put-pair .ensures)
+    (second .put-pair2 .ensures)
+    (third .put-pair3 .ensures)
     (c .before .before .put-pair4 .ensures)
     (omega arith)
 

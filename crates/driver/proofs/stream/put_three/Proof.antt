@@ -25,11 +25,10 @@ same-length c = search needs
 
 returns : tie.Need-returns
 returns c =
-    wrote-three
-    (c .before .before .before .before .before .before .before .before .before .before .put-bit .ensures)
-    (c .before .before .before .before .before .before .put-bit2 .ensures)
-    (c .before .before .put-bit3 .ensures)
-    (omega arith)
+    let third = c .before .before in
+    let second = third .before .before .before .before in
+    let first = second .before .before .before .before in
+    wrote-three (first .put-bit .ensures) (second .put-bit2 .ensures) (third .put-bit3 .ensures) (omega arith)
 
 pub put-three-spec : {M : Type 1} → statement M
 put-three-spec =

@@ -24,7 +24,10 @@ same-length c = search needs
 returns : tie.Need-returns
 unfolding commandStream
 returns c =
-    wrote-three (c .before .before .before .before .before .before .before .before .before .before .put-pair .ensures) (c .before .before .before .before .before .before .put-three .ensures) (c .before .before .put-commands .ensures) (omega arith)
+    let third = c .before .before in
+    let second = third .before .before .before .before in
+    let first = second .before .before .before .before in
+    wrote-three (first .put-pair .ensures) (second .put-three .ensures) (third .put-commands .ensures) (omega arith)
 
 pub whole-commands-spec : {M : Type 1} → statement M
 whole-commands-spec =

@@ -19,7 +19,10 @@ same-length c = search needs
 
 returns : tie.Need-returns
 unfolding writeStream
-returns c = wrote-then _ _ (c .before .before .before .before .before .before .put-head .ensures) (c .before .before .put-nibbles .ensures) (omega arith)
+returns c =
+    let second = c .before .before in
+    let first = second .before .before .before .before in
+    wrote-then _ _ (first .put-head .ensures) (second .put-nibbles .ensures) (omega arith)
 
 pub whole-write-spec : {M : Type 1} → statement M
 whole-write-spec = tie.close (tie.spec put-head-requires put-nibbles-requires same-length returns)
