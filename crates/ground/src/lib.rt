@@ -72,7 +72,7 @@ impl Refusal {
 pub fn first_above(values: &[u8], limit: u8) -> usize
     ensures { λ r. ⌜ r ≡ lowest (ltb limit) (now (values .entry)) ⌝ }
 {
-    let mut i: usize = 0;
+    let mut i: usize = 0; // the first value
     while i < values.len() {
         if limit < values[i] {
             return i;
