@@ -1,0 +1,79 @@
+-- `listing::main` meets its contract: what was written fits the buffer, since every listing fits its room.
+-- Assumes nothing.
+use mathlib.Core.Path.{sym}
+use native.Mathlib.Omega.{arith}
+use lib.Seq.{length-take-le}
+use Rattle.transcript.proofs.LineLaws.{written-fits}
+use borrow.Author.Needs.{needs}
+use Rattle.listing.proofs.main.Statement.{statement}
+use Rattle.listing.proofs.main.Tie as tie
+
+in-buffer-requires : tie.Need-in-buffer-requires
+in-buffer-requires c κs = search needs
+
+slice-aggregate-read-full : tie.Need-slice-aggregate-read-full
+slice-aggregate-read-full c = search needs
+
+read-full-requires : tie.Need-read-full-requires
+read-full-requires c κs = search needs
+
+out-buffer-requires : tie.Need-out-buffer-requires
+out-buffer-requires c κs = search needs
+
+array-share-prefix-input : tie.Need-array-share-prefix-input
+array-share-prefix-input c = search needs
+
+slice-aggregate-list : tie.Need-slice-aggregate-list
+slice-aggregate-list c = search needs
+
+slice-aggregate-list-2 : tie.Need-slice-aggregate-list-2
+slice-aggregate-list-2 c = search needs
+
+list-requires : tie.Need-list-requires
+list-requires c κs = search needs
+
+enum-known-written : tie.Need-enum-known-written
+enum-known-written c = search needs
+
+array-share-prefix-out : tie.Need-array-share-prefix-out
+array-share-prefix-out c =
+    let at-list : _ = c .before .before .before .before in
+    omega (arith, written-fits _ (at-list .list .ensures) (c .before .written .given .1))
+
+slice-aggregate-write-all : tie.Need-slice-aggregate-write-all
+slice-aggregate-write-all c =
+    let at-list : _ = c .before .before .before .before .before in
+    let fits : _ = written-fits _ (at-list .list .ensures) (c .before .before .written .given .1) in
+    sym (length-take-le _ (at-list .list .last .1 .0) (omega arith))
+
+write-all-requires : tie.Need-write-all-requires
+write-all-requires c κs = search needs
+
+enum-told : tie.Need-enum-told
+enum-told c = search needs
+
+returns : tie.Need-returns
+returns c = search needs
+
+returns-2 : tie.Need-returns-2
+returns-2 c = search needs
+
+pub main-spec : {M : Type 1} → statement M
+main-spec =
+    tie.close
+    (tie.spec
+    in-buffer-requires
+    slice-aggregate-read-full
+    read-full-requires
+    out-buffer-requires
+    array-share-prefix-input
+    slice-aggregate-list
+    slice-aggregate-list-2
+    list-requires
+    enum-known-written
+    array-share-prefix-out
+    slice-aggregate-write-all
+    write-all-requires
+    enum-told
+    returns
+    returns-2)

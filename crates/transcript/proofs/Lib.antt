@@ -1,0 +1,4 @@
+pub mod DecimalLaws
+pub mod Determined
+pub mod LineLaws
+pub mod ListLaws
