@@ -1,21 +1,24 @@
 -- What a request that the driver accepts has passed: each refusal's test failed. Assumes nothing.
-use mathlib.Core.Path.{_≡_, _∙_, refl}
+use mathlib.Core.Path.{_≡_, _∙_, refl, sym, ap}
 use mathlib.Core.Bool.{Bool, true, false}
 use mathlib.Core.List.{List, [], _∷_}
 use Prim.Native.Nat.{ℕ, zero, suc, _+_, _*_, _≤_, _<_, suc-le-suc, zero-le}
 use native.Mathlib.Decide.{decLt}
+use native.Mathlib.Nat.{zero-add}
 use native.Mathlib.Omega.{arith}
 use lib.Dec.{ltb}
-use lib.ListN.{length, getD}
+use lib.ListN.{length, take, getD}
 use borrow.Author.Tests.{ltb-false, eqb-false, lt-ltb}
 use Rattle.ground.specs.declared.Refusal.{Refusal}
 use Rattle.ground.specs.Places.{lowest, somewhere}
+use Rattle.ground.specs.Written.{over}
+use Rattle.ground.proofs.WrittenLaws.{take-over}
 use Rattle.ground.proofs.PlacesLaws.{lowest-below, none-above}
 use Rattle.commands.specs.Commands.{codeMeaning, undefined}
 use Rattle.chip.specs.Valid.{Nibbles}
 use Rattle.driver.specs.declared.Answer.{Answer}
 use Rattle.driver.specs.declared.Answer.the-variants.{Written, Refused}
-use Rattle.driver.specs.Refusals.{nothing, outsideMemory, tooMany, nibbleFault, commandFault, refusedIf, fitted, writeAnswer, readAnswer, commandAnswer}
+use Rattle.driver.specs.Refusals.{nothing, outsideMemory, tooMany, nibbleFault, commandFault, refusedIf, fitted, left, writeAnswer, readAnswer, commandAnswer}
 use Rattle.driver.specs.Streams.{writeStream, readStream, commandStream}
 use Rattle.driver.proofs.RefusalsLaws.{inside}
 use Rattle.demands.specs.Demand2.{AcceptsRead, AcceptsCommands}
@@ -86,3 +89,12 @@ accepted-commands codes e =
     let c = passed (somewhere commandFault codes) _ _ _ (b .1) in
     let none = ltb-false (lowest commandFault codes) (length codes) (c .0) in
     defined-from codes (λ k h. lowest-below commandFault codes k (commandFault (getD codes k 0)) refl (omega arith))
+
+-- ---- what stands in the buffer
+
+-- a call that succeeds leaves the stream, and nothing but it, in as many bytes as it reports
+pub buffer-holds : (stream buffer : List ℕ) (count : ℕ) → length stream ≤ length buffer
+    → take (length stream) (left (Written count) stream buffer) ≡ stream
+buffer-holds stream buffer count h =
+    ap (λ (n : ℕ). take n (over buffer 0 stream)) (sym (zero-add (length stream)))
+    ∙ take-over buffer stream 0 (omega arith)
