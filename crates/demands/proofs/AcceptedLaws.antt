@@ -70,6 +70,20 @@ accepted-write first ns e =
       nibbles = nibbles-from ns (none-above 15 ns (ltb-false (lowest nibbleFault ns) (length ns) (c .0)));
     }
 
+-- a success reports the stream's length, and there was room for it
+pub written-fits : (first : ℕ) (ns : List ℕ) (room count : ℕ) → writeAnswer first ns room ≡ Written count
+    → (count ≡ length (writeStream first ns)) × (length (writeStream first ns) ≤ room)
+unfolding writeAnswer
+written-fits first ns room count e =
+    let a = passed (nothing (length ns)) _ _ _ e in
+    let b = passed (outsideMemory first (length ns)) _ _ _ (a .1) in
+    let c = passed (somewhere nibbleFault ns) _ _ _ (b .1) in
+    let d = passed (ltb room (length (writeStream first ns))) _ _ _ (c .1) in
+    (counted (d .1), ltb-false room (length (writeStream first ns)) (d .0))
+  where
+    counted : Written (length (writeStream first ns)) ≡ Written count → count ≡ length (writeStream first ns)
+    counted same = cc
+
 -- ---- a read
 
 pub accepted-read : (first count : ℕ) → AcceptsRead first count → (0 < count) × (first + count ≤ 32)

@@ -3,8 +3,10 @@ pub mod Cases
 pub mod CommandLaws
 pub mod Demand2
 pub mod Demand3
+pub mod Determined
 pub mod Ports
 pub mod ReadLaws
+pub mod RehearsalLaws
 pub mod SettingsLaws
 pub mod StreamLevels
 pub mod TraceLaws

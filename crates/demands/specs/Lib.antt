@@ -2,3 +2,4 @@ pub mod Cases
 pub mod Demand2
 pub mod Demand3
 pub mod Events
+pub mod Rehearsal

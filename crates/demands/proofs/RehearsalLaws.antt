@@ -1,0 +1,113 @@
+-- Laws of a rehearsal: one sample more with its pause, and the end; and a rehearsal is a write that stops, so demand 3 holds
+-- of it. Assumes nothing.
+use mathlib.Core.Path.{_≡_, _∙_, refl, sym, ap}
+use mathlib.Core.List.{List, [], _∷_, _++_}
+use Prim.Native.Nat.{ℕ, zero, suc, _+_, _-_, _≤_, _<_}
+use native.Mathlib.Omega.{arith}
+use native.Mathlib.Numerals.{add-one}
+use lib.ListN.{length, take, drop, getD, replicate, drop-of-length-le}
+use lib.Seq.{drop-cons, take-nil}
+use Rattle.rules.specs.Ticks as rules
+use Rattle.chip.specs.declared.Chip.{Chip}
+use Rattle.chip.specs.Chip.{stepped, ticked, advanced}
+use Rattle.chip.specs.Valid.{Valid}
+use Rattle.ground.specs.declared.Refusal.{Refusal}
+use Rattle.ground.specs.Written.{over}
+use Rattle.ground.proofs.WrittenLaws.{length-over}
+use Rattle.driver.specs.declared.Answer.{Answer}
+use Rattle.driver.specs.declared.Answer.the-variants.{Written, Refused}
+use Rattle.driver.specs.Refusals.{writeAnswer, left, Does}
+use Rattle.driver.specs.Streams.{writeStream}
+use Rattle.demands.specs.Events.{Event, sample, tick, happened, after, samples}
+use Rattle.demands.specs.Demand3.{Accepts, Survives}
+use Rattle.demands.specs.Rehearsal.{paced, stopped, Rehearses}
+use Rattle.demands.proofs.AcceptedLaws.{written-fits, buffer-holds}
+use Rattle.demands.proofs.Demand3.{demand3}
+
+-- some ticks in a row
+after-pause : (n : ℕ) (c : Chip) (es : List Event) → after c (replicate n tick ++ es) ≡ after (advanced n c) es
+unfolding rules.advanced
+after-pause zero c es = refl
+after-pause (suc n) c es = after-pause n (ticked c) es
+
+module _ (c : Chip) (ss : List ℕ) (stop pause i : ℕ) where
+  -- one sample more, and its pause
+  pub feed-next : i < stop → i < length ss
+      → after c (paced pause (take (stop - i) (drop i ss)))
+      ≡ after (advanced pause (stepped c (getD ss i 0) .chip)) (paced pause (take (stop - (i + 1)) (drop (i + 1) ss)))
+  feed-next room more =
+      let one : stop - i ≡ suc (stop - (i + 1)) = omega arith in
+      ap (λ (n : ℕ). after c (paced pause (take n (drop i ss)))) one
+      ∙ ap (λ (l : List ℕ). after c (paced pause (take (suc (stop - (i + 1))) l))) (drop-cons ss i 0 more)
+      ∙ after-pause pause (stepped c (getD ss i 0) .chip) (paced pause (take (stop - (i + 1)) (drop (suc i) ss)))
+      ∙ ap (λ (n : ℕ). after (advanced pause (stepped c (getD ss i 0) .chip)) (paced pause (take (stop - (i + 1)) (drop n ss)))) (sym (add-one i))
+
+  -- nothing more is asked for
+  pub feed-stops : stop ≤ i → c ≡ after c (paced pause (take (stop - i) (drop i ss)))
+  feed-stops h = let none : stop - i ≡ 0 = omega arith in rw none
+
+  -- nothing more is there
+  pub feed-ends : length ss ≤ i → c ≡ after c (paced pause (take (stop - i) (drop i ss)))
+  feed-ends h = rw (drop-of-length-le ss h, take-nil)
+
+-- ---- demand 3 of a rehearsal
+
+ticks-samples : (n : ℕ) (es : List Event) → samples (replicate n tick ++ es) ≡ samples es
+ticks-samples zero es = refl
+ticks-samples (suc n) es = ticks-samples n es
+
+paced-samples : (pause : ℕ) (ss : List ℕ) → samples (paced pause ss) ≡ ss
+paced-samples pause [] = refl
+paced-samples pause (s ∷ ss) = ap (λ (l : List ℕ). s ∷ l) (ticks-samples pause (paced pause ss) ∙ paced-samples pause ss)
+
+-- what `rehearse` leaves of a valid chip, after an accepted write stopped after `stop` samples, survives
+pub rehearsed-survives : (c : Chip) (first : ℕ) (nibbles : List ℕ) (stop pause : ℕ) → Valid c → Accepts first nibbles
+    → Survives c first nibbles stop (paced pause (take stop (writeStream first nibbles)))
+rehearsed-survives c first nibbles stop pause valid accepts =
+    demand3 c first nibbles stop (paced pause (take stop (writeStream first nibbles))) valid accepts
+    (paced-samples pause (take stop (writeStream first nibbles)))
+
+-- ---- what the driver's call leaves, and what is fed
+
+module _ (first : ℕ) (ns : List ℕ) {before after' : List ℕ} {r : Answer}
+    (did : Does (writeAnswer first ns (length before)) (writeStream first ns) before r after') where
+  -- a success: the stream stands at the start, and its length is what was reported
+  pub written : {count : ℕ} → r ≡ Written count
+      → (writeAnswer first ns (length before) ≡ Written count) × (count ≡ length (writeStream first ns))
+      × (length (writeStream first ns) ≤ length before) × (after' ≡ over before 0 (writeStream first ns))
+  written {count} e =
+      let due : writeAnswer first ns (length before) ≡ Written count = sym (did .answer) ∙ e in
+      let fits = written-fits first ns (length before) count due in
+      (due, fits .0, fits .1, did .bytes ∙ ap (λ (a : Answer). left a (writeStream first ns) before) due)
+
+  pub count-fits : {count : ℕ} → r ≡ Written count → count ≤ length after'
+  count-fits {count} e =
+      let w = written e in
+      let same : length after' ≡ length before = ap length (w .3) ∙ length-over before (writeStream first ns) 0 (omega (arith, w .2)) in
+      omega (arith, w .1, w .2)
+
+  pub rehearses : {c end : Chip} {stop pause count : ℕ} → r ≡ Written count
+      → end ≡ after c (paced pause (take stop (take count after')))
+      → Rehearses c first ns stop pause before (record { answer = Written count; chip = end }) after'
+  rehearses {c} {end} {stop} {pause} {count} e fed =
+      let w = written e in
+      record {
+        answer = sym (w .0);
+        bytes = did .bytes;
+        end =
+            fed
+            ∙ ap (λ (l : List ℕ). after c (paced pause (take stop l)))
+            (ap (λ (n : ℕ). take n after') (w .1)
+            ∙ ap (take (length (writeStream first ns))) (w .3)
+            ∙ buffer-holds (writeStream first ns) before count (w .2))
+            ∙ ap (λ (a : Answer). stopped a c stop pause (writeStream first ns)) (sym (w .0));
+      }
+
+  pub refuses : {c : Chip} {stop pause : ℕ} {why : Refusal} → r ≡ Refused why
+      → Rehearses c first ns stop pause before (record { answer = r; chip = c }) after'
+  refuses {c} {stop} {pause} {why} e =
+      record {
+        answer = did .answer;
+        bytes = did .bytes;
+        end = ap (λ (a : Answer). stopped a c stop pause (writeStream first ns)) (sym e ∙ did .answer);
+      }

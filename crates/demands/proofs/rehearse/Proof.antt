@@ -1,0 +1,53 @@
+-- `demands::rehearse` meets its contract: what the driver left in the room is its stream, and that is what is fed.
+-- Assumes nothing.
+use mathlib.Core.Path.{sym}
+use borrow.Author.Needs.{needs}
+use lib.Seq.{length-take-le}
+use Rattle.demands.proofs.RehearsalLaws.{count-fits, rehearses, refuses}
+use Rattle.demands.proofs.rehearse.Statement.{statement}
+use Rattle.demands.proofs.rehearse.Tie as tie
+
+write-requires : tie.Need-write-requires
+write-requires c κs = search needs
+
+enum-known-answer : tie.Need-enum-known-answer
+enum-known-answer c = search needs
+
+slice-reshare-prefix-fed : tie.Need-slice-reshare-prefix-fed
+slice-reshare-prefix-fed c = count-fits (c .before .before .before .before .before .before .before .before .before .args .first) (c .before .before .before .before .before .before .before .before .before .args .nibbles .now) (c .before .before .before .before .before .write .ensures) (c .before .answer .given .1)
+
+slice-aggregate-fed : tie.Need-slice-aggregate-fed
+slice-aggregate-fed c = sym (length-take-le _ _ (count-fits (c .before .before .before .before .before .before .before .before .before .before .args .first) (c .before .before .before .before .before .before .before .before .before .before .args .nibbles .now) (c .before .before .before .before .before .before .write .ensures) (c .before .before .answer .given .1)))
+
+fed-requires : tie.Need-fed-requires
+fed-requires c κs = search needs
+
+enum-told : tie.Need-enum-told
+enum-told c = search needs
+
+same-length : tie.Need-same-length
+same-length c = search needs
+
+returns : tie.Need-returns
+returns c = rehearses (c .before .before .before .before .before .before .before .before .before .before .before .args .first) (c .before .before .before .before .before .before .before .before .before .before .before .args .nibbles .now) (c .before .before .before .before .before .before .before .write .ensures) (c .before .before .before .answer .given .1) (c .fed .ensures)
+
+same-length-2 : tie.Need-same-length-2
+same-length-2 c = search needs
+
+returns-2 : tie.Need-returns-2
+returns-2 c = refuses (c .before .before .before .before .before .before .before .before .args .first) (c .before .before .before .before .before .before .before .before .args .nibbles .now) (c .before .before .before .before .write .ensures) (c .enum-told .given .1)
+
+pub rehearse-spec : {M : Type 1} → statement M
+rehearse-spec =
+    tie.close
+    (tie.spec
+    write-requires
+    enum-known-answer
+    slice-reshare-prefix-fed
+    slice-aggregate-fed
+    fed-requires
+    enum-told
+    same-length
+    returns
+    same-length-2
+    returns-2)
