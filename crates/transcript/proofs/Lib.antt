@@ -1,3 +1,4 @@
+pub mod Cases
 pub mod DecimalLaws
 pub mod Determined
 pub mod LineLaws

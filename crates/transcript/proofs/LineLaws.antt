@@ -1,9 +1,9 @@
 -- Laws of the lines: how long each is, so that every listing fits its room; and one write after another makes a line.
 -- Assumes nothing.
-use mathlib.Core.Path.{_≡_, sym, _∙_}
+use mathlib.Core.Path.{_≡_, refl, sym, _∙_}
 use mathlib.Core.Bool.{Bool, true, false, cond}
 use mathlib.Core.List.{List, [], _∷_, _++_, append-nil}
-use Prim.Native.Nat.{ℕ, _+_, _*_, _≤_, _<_}
+use Prim.Native.Nat.{ℕ, _+_, _*_, _≤_}
 use native.Mathlib.Omega.{arith}
 use native.Mathlib.Nat.{add-zero}
 use lib.Dec.{ltb, eqb}
@@ -21,7 +21,8 @@ use Rattle.transcript.specs.declared.Class.{Class}
 use Rattle.transcript.specs.declared.Class.the-variants.{Sample, Tick, Skipped, Bad}
 use Rattle.transcript.specs.declared.Listed.{Listed}
 use Rattle.transcript.specs.declared.Listed.the-variants.{Written, Refused}
-use Rattle.transcript.specs.Listing.{ListedAs, space, newline, field, line, answerLine, bad, badLine, end, endLine, long, begun, classOf, lists, listFrom, listing, roomFor}
+use Rattle.transcript.specs.Listing.{ListedAs, lists, listFrom, listing, roomFor}
+use Rattle.transcript.specs.Listing.{space, newline, field, line, answerLine, bad, badLine, end, endLine, begun, classOf}
 use Rattle.transcript.proofs.DecimalLaws.{length-field}
 
 pub length-line : (number kind first second : ℕ) → length (line number kind first second) ≤ 24
@@ -83,20 +84,23 @@ listing-fits input =
     by-cases (λ (l : List ℕ). length l ≤ roomFor (length input)) (ltb 65536 (length input)) (λ e. omega arith)
     (λ e. omega (arith, ltb-false 65536 (length input) e, length-listFrom begun 0 0 0 input))
 
--- so a caller may show as many bytes of a buffer as were written
-pub written-fits : {input before after : List ℕ} {result : Listed} (count : ℕ) → ListedAs input before after result
-    → result ≡ Written count → count ≤ roomFor (length input)
-written-fits {input} {before} {after} {result} count listed is =
-    by (ltb (length before) (roomFor (length input))) (sym is ∙ listed .answer)
+-- so what was written is within the buffer
+pub written-within : {input before after : List ℕ} {result : Listed} (count : ℕ) → ListedAs input before after result
+    → result ≡ Written count → count ≤ length before
+written-within {input} {before} {after} {result} count listed is =
+    by (ltb (length before) (roomFor (length input))) refl (sym is ∙ listed .answer)
   where
-    by : (short : Bool) → Written count ≡ cond short (Refused OutputShort) (Written (length (listing input)))
-        → count ≤ roomFor (length input)
-    by true e = let no : _≡_ {A = ℕ} 0 1 = cc in omega arith
-    by false e = let all : count ≡ length (listing input) = cc in omega (arith, listing-fits input)
+    by : (short : Bool) → ltb (length before) (roomFor (length input)) ≡ short
+        → Written count ≡ cond short (Refused OutputShort) (Written (length (listing input))) → count ≤ length before
+    by true t e = let no : _≡_ {A = ℕ} 0 1 = cc in omega arith
+    by false t e =
+        let all : count ≡ length (listing input) = cc in
+        omega (arith, listing-fits input, ltb-false (length before) (roomFor (length input)) t)
 
 -- one field after another
 pub line-wrote : {a b c d e : List ℕ} (number kind first second : ℕ) {at k l m n : ℕ}
-    → Wrote a at (field number space) b k → Wrote b k (field kind space) c l → Wrote c l (field first space) d m → Wrote d m (field second newline) e n
+    → Wrote a at (field number space) b k → Wrote b k (field kind space) c l → Wrote c l (field first space) d m
+    → Wrote d m (field second newline) e n
     → at + 24 ≤ length a → Wrote a at (line number kind first second) e n
 unfolding line
 line-wrote number kind first second p q r s fits =
@@ -115,7 +119,8 @@ unfolding badLine
 bad-wrote offset p q fits = wrote-then bad (field offset newline) p q (omega (arith, length-field offset newline))
 
 pub end-wrote : {a b c d : List ℕ} (samples ticks : ℕ) {at k l m : ℕ} → Wrote a at end b k
-    → Wrote b k (field samples space) c l → Wrote c l (field ticks newline) d m → at + 16 ≤ length a → Wrote a at (endLine samples ticks) d m
+    → Wrote b k (field samples space) c l → Wrote c l (field ticks newline) d m
+    → at + 16 ≤ length a → Wrote a at (endLine samples ticks) d m
 unfolding endLine
 end-wrote samples ticks p q r fits =
     let one : length (end ++ field samples space) ≤ 10 = simp length-append (omega (arith, length-field samples space)) in

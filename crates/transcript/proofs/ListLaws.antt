@@ -1,8 +1,8 @@
 -- The loop of the listing: what is left of the input, written after what stands there, makes the whole listing.
 -- Assumes nothing.
-use mathlib.Core.Path.{_≡_, refl, ap, sym, _∙_, subst}
-use mathlib.Core.List.{List, [], _∷_, _++_}
-use Prim.Native.Nat.{ℕ, suc, _+_, _*_, _≤_, _<_}
+use mathlib.Core.Path.{_≡_, refl, _∙_}
+use mathlib.Core.List.{List}
+use Prim.Native.Nat.{ℕ, _+_, _*_, _≤_, _<_}
 use native.Mathlib.Omega.{arith}
 use native.Mathlib.Numerals.{add-one}
 use lib.ListN.{length, drop, getD, length-drop, drop-of-length-le}
@@ -92,7 +92,8 @@ module _ {input before now : List ℕ} {chip : Chip} {at samples ticks i : ℕ}
 
   -- as the code has it: the chips are what `step` and `tick` hand back
   pub going-steps : (value : ℕ) (result : Stepped) {then : List ℕ} {next : ℕ} → result ≡ stepped chip value
-      → i < length input → Sample value ≡ classOf (getD input i 0) → Wrote now at (answerLine (samples + 1) (result .answer)) then next
+      → i < length input → Sample value ≡ classOf (getD input i 0)
+      → Wrote now at (answerLine (samples + 1) (result .answer)) then next
       → 24 * length input + 16 ≤ length before → Going input before then (result .chip) next (samples + 1) ticks (i + 1)
   going-steps value result same more e w fits = rw same (going-samples value more e (rw same at w) fits)
 

@@ -108,5 +108,6 @@ listedNumber (Refused refusal) = refusalNumber refusal
 -- What `list` makes of an input and a buffer: 25 where the buffer is shorter than the room, and it stays as it was; else
 -- the listing's bytes at its start, their number as the result, and no byte after them changed.
 pub record ListedAs (input before after : List ℕ) (result : Listed) : Type 0 where
-  pub answer : result ≡ cond (ltb (length before) (roomFor (length input))) (Refused OutputShort) (Written (length (listing input)))
+  pub answer : result
+      ≡ cond (ltb (length before) (roomFor (length input))) (Refused OutputShort) (Written (length (listing input)))
   pub buffer : after ≡ cond (ltb (length before) (roomFor (length input))) before (over before 0 (listing input))

@@ -43,14 +43,14 @@ put-decimal-slice-write-out : (t : ℕ) → put-decimal-lts.Need-slice-write-out
   put-decimal.Post,
 ) (put-decimal-at t) put-decimal.Post
 put-decimal-slice-write-out t c =
-    omega (arith, ap length (decimal-low (c .before .before .args .n) (c .if1 .taken)))
+    omega (arith, ap length (decimal-low (c .before .before .args .n) (omega arith)))
 
 put-decimal-add-result : (t : ℕ) → put-decimal-lts.Need-add-result (
   put-decimal-below t,
   put-decimal.Post,
 ) (put-decimal-at t) put-decimal.Post
 put-decimal-add-result t c =
-    omega (arith, ap length (decimal-low (c .before .before .args .n) (c .if1 .taken)))
+    omega (arith, ap length (decimal-low (c .before .before .args .n) (omega arith)))
 
 put-decimal-same-length : (t : ℕ) → put-decimal-lts.Need-same-length (
   put-decimal-below t,
@@ -64,8 +64,8 @@ put-decimal-returns : (t : ℕ) → put-decimal-lts.Need-returns (
 ) (put-decimal-at t) put-decimal.Post
 put-decimal-returns t c =
     let entry : _ = c .before .before in
-    digit-wrote (entry .args .out .now) (entry .args .at) (entry .args .n) (c .if1 .taken)
-    (omega (arith, ap length (decimal-low (entry .args .n) (c .if1 .taken))))
+    digit-wrote (entry .args .out .now) (entry .args .at) (entry .args .n) (omega arith)
+    (omega (arith, ap length (decimal-low (entry .args .n) (omega arith))))
 
 put-decimal-put-decimal-requires : (t : ℕ) → put-decimal-lts.Need-put-decimal-requires (
   put-decimal-below t,
@@ -96,8 +96,8 @@ put-decimal-slice-write-out-2 t c =
     let at-if1 : _ = c .before .before .before .before in
     let entry : _ = at-if1 .before .before in
     let shorter : _ = length-decimal-high (entry .args .n) (at-if1 .if1 .left) (entry .pre .1 .0) in
-    let same : _ =
-    wrote-length (decimal (entry .args .n / 10)) (c .before .before .put-decimal .ensures) (omega (arith, entry .pre .1 .1)) in
+    let put : _ = c .before .before .put-decimal .ensures in
+    let same : _ = wrote-length (decimal (entry .args .n / 10)) put (omega (arith, entry .pre .1 .1)) in
     omega (arith, entry .pre .1 .1, c .before .before .put-decimal .ensures .cursor)
 
 put-decimal-add-result-2 : (t : ℕ) → put-decimal-lts.Need-add-result-2 (
@@ -118,8 +118,8 @@ put-decimal-same-length-2 t c =
     let at-if1 : _ = c .before .before .before .before in
     let entry : _ = at-if1 .before .before in
     let shorter : _ = length-decimal-high (entry .args .n) (at-if1 .if1 .left) (entry .pre .1 .0) in
-    simp length-set
-    (wrote-length (decimal (entry .args .n / 10)) (c .before .before .put-decimal .ensures) (omega (arith, entry .pre .1 .1)))
+    let put : _ = c .before .before .put-decimal .ensures in
+    simp length-set (wrote-length (decimal (entry .args .n / 10)) put (omega (arith, entry .pre .1 .1)))
 
 put-decimal-returns-2 : (t : ℕ) → put-decimal-lts.Need-returns-2 (
   put-decimal-below t,

@@ -1,5 +1,5 @@
 -- `transcript::begin` meets its contract: power-on accepts a memory of 32 zeros. Assumes nothing.
-use mathlib.Core.Path.{_∙_, ap}
+use mathlib.Core.Path.{ap}
 use borrow.Author.Needs.{needs}
 use Rattle.chip.specs.declared.PoweredOn.{PoweredOn}
 use Rattle.chip.specs.PowerOn.{poweredOn}

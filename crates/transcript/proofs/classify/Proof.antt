@@ -20,7 +20,7 @@ between-requires c κs = search needs
 
 sub-t3 : tie.Need-sub-t3
 sub-t3 c =
-    no-less 48 (c .before .before .args .byte) 57 (leb 48 (c .before .before .args .byte)) refl
+    no-less 48 _ _ (leb 48 (c .before .before .args .byte)) refl
     (sym (c .before .between .ensures) ∙ c .if1 .taken)
 
 returns : tie.Need-returns
@@ -33,7 +33,7 @@ between-requires-2 c κs = search needs
 sub-t5 : tie.Need-sub-t5
 sub-t5 c =
     let entry : _ = c .before .before .before .before in
-    no-less 97 (entry .args .byte) 102 (leb 97 (entry .args .byte)) refl
+    no-less 97 _ _ (leb 97 (entry .args .byte)) refl
     (sym (c .before .between2 .ensures) ∙ c .if2 .taken)
 
 add-t6 : tie.Need-add-t6
@@ -62,8 +62,12 @@ returns-4 c =
     let at-between2 : _ = c .before .before .before in
     let at-if1 : _ = at-between2 .before in
     let at-between : _ = at-if1 .before in
-    simp
-    (sym (at-between .between .ensures) ∙ at-if1 .if1 .left, sym (at-between2 .between2 .ensures) ∙ c .before .before .if2 .left, ne-eqb _ _ (c .before .if3 .left), eq-eqb _ _ (c .if4 .taken))
+    simp (
+      sym (at-between .between .ensures) ∙ at-if1 .if1 .left,
+      sym (at-between2 .between2 .ensures) ∙ c .before .before .if2 .left,
+      ne-eqb _ _ (c .before .if3 .left),
+      eq-eqb _ _ (c .if4 .taken),
+    )
 
 returns-5 : tie.Need-returns-5
 unfolding classOf
@@ -72,8 +76,13 @@ returns-5 c =
     let at-between2 : _ = at-if2 .before in
     let at-if1 : _ = at-between2 .before in
     let at-between : _ = at-if1 .before in
-    simp
-    (sym (at-between .between .ensures) ∙ at-if1 .if1 .left, sym (at-between2 .between2 .ensures) ∙ at-if2 .if2 .left, ne-eqb _ _ (c .before .before .if3 .left), ne-eqb _ _ (c .before .if4 .left), eq-eqb _ _ (c .if5 .taken))
+    simp (
+      sym (at-between .between .ensures) ∙ at-if1 .if1 .left,
+      sym (at-between2 .between2 .ensures) ∙ at-if2 .if2 .left,
+      ne-eqb _ _ (c .before .before .if3 .left),
+      ne-eqb _ _ (c .before .if4 .left),
+      eq-eqb _ _ (c .if5 .taken),
+    )
 
 returns-6 : tie.Need-returns-6
 unfolding classOf
@@ -82,8 +91,13 @@ returns-6 c =
     let at-between2 : _ = at-if2 .before in
     let at-if1 : _ = at-between2 .before in
     let at-between : _ = at-if1 .before in
-    simp
-    (sym (at-between .between .ensures) ∙ at-if1 .if1 .left, sym (at-between2 .between2 .ensures) ∙ at-if2 .if2 .left, ne-eqb _ _ (c .before .before .if3 .left), ne-eqb _ _ (c .before .if4 .left), ne-eqb _ _ (c .if5 .left))
+    simp (
+      sym (at-between .between .ensures) ∙ at-if1 .if1 .left,
+      sym (at-between2 .between2 .ensures) ∙ at-if2 .if2 .left,
+      ne-eqb _ _ (c .before .before .if3 .left),
+      ne-eqb _ _ (c .before .if4 .left),
+      ne-eqb _ _ (c .if5 .left),
+    )
 
 pub classify-spec : {M : Type 1} → statement M
 classify-spec =

@@ -65,8 +65,10 @@ same-length c = c .before .loop .inv .1
 
 returns : tie.Need-returns Inv-loop μ-loop
 returns c =
-    all (c .before .before .args .out .now) (c .before .before .args .bytes .now) (c .before .loop .out) (c .before .before .args .at)
-    (c .before .loop .i) (c .before .loop .inv .2) (c .before .before .pre) (omega arith)
+    let entry : _ = c .before .before in
+    let turn : _ = c .before .loop in
+    all (entry .args .out .now) (entry .args .bytes .now) (turn .out) (entry .args .at) (turn .i) (turn .inv .2)
+    (entry .pre) (omega arith)
 
 pub put-bytes-spec : {M : Type 1} → statement M
 put-bytes-spec =

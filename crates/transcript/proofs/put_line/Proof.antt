@@ -24,7 +24,8 @@ put-field-requires-3 c κs =
 
 put-field-requires-4 : tie.Need-put-field-requires-4
 put-field-requires-4 c κs =
-    let entry : _ = c .before .before .before .before .before .before .before .before .before .before .before .before .before .before in
+    let at-put-field : _ = c .before .before .before .before .before .before .before .before .before .before .before in
+    let entry : _ = at-put-field .before .before .before in
     let short : _ = length-field (entry .args .number) space in
     let short-kind : _ = length-field (entry .args .kind) space in
     let short-first : _ = length-field (entry .args .first) space in

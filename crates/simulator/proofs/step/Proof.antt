@@ -1,0 +1,74 @@
+-- `simulator::step` meets its contract: each refusal leaves early, and what is left is written. Assumes nothing.
+use mathlib.Core.Path.{_∙_, sym}
+use Rattle.simulator.proofs.SimulatorLaws.{step-malformed, step-above, step-taken}
+use borrow.Author.Needs.{needs}
+use Rattle.simulator.proofs.step.Statement.{statement}
+use Rattle.simulator.proofs.step.Tie as tie
+
+read-requires : tie.Need-read-requires
+read-requires c κs = search needs
+
+refused-by-requires : tie.Need-refused-by-requires
+refused-by-requires c κs = search needs
+
+same-length : tie.Need-same-length
+same-length c = search needs
+
+returns : tie.Need-returns
+returns c =
+    let read = c .before .before in
+    let start = read .before .before .before in
+    let done = step-malformed (start .args .bytes .now) (read .read .result) (read .read .ensures) (start .args .sample)
+    (λ y. c .if1 .taken (c .before .refused-by .ensures ∙ y)) in
+    (c .before .refused-by .ensures ∙ done .0, done .1)
+
+same-length-2 : tie.Need-same-length-2
+same-length-2 c = search needs
+
+returns-2 : tie.Need-returns-2
+returns-2 c =
+    let tested = c .before in
+    let read = tested .before .before in
+    let start = read .before .before .before in
+    step-above (start .args .bytes .now) (read .read .result) (read .read .ensures) (start .args .sample)
+    (sym (tested .before .refused-by .ensures) ∙ tested .if1 .left) (c .if2 .taken)
+
+step-requires : tie.Need-step-requires
+step-requires c κs = search needs
+
+write-requires : tie.Need-write-requires
+write-requires c κs = search needs
+
+code-of-requires : tie.Need-code-of-requires
+code-of-requires c κs = search needs
+
+same-length-3 : tie.Need-same-length-3
+same-length-3 c = search needs
+
+returns-3 : tie.Need-returns-3
+returns-3 c =
+    let written = c .before .before .before in
+    let taken = written .before .before .before in
+    let low = taken .before .before in
+    let tested = low .before in
+    let read = tested .before .before in
+    let start = read .before .before .before in
+    step-taken (start .args .bytes .now) (read .read .result) (read .read .ensures) (start .args .sample) (taken .step .result) _ _
+    (sym (tested .before .refused-by .ensures) ∙ tested .if1 .left) (low .if2 .left) (taken .step .ensures)
+    (written .write .ensures .1) (c .code-of .ensures)
+
+pub step-spec : {M : Type 1} → statement M
+step-spec =
+    tie.close
+    (tie.spec
+    read-requires
+    refused-by-requires
+    same-length
+    returns
+    same-length-2
+    returns-2
+    step-requires
+    write-requires
+    code-of-requires
+    same-length-3
+    returns-3)

@@ -1,0 +1,149 @@
+-- Laws of the coded bytes: a case written and read is the same case, and a byte that reads to a case is written the same.
+-- Assumes nothing.
+use mathlib.Core.Path.{_≡_, _∙_, refl, sym, ap}
+use mathlib.Core.Bool.{Bool, true, false, cond, _&&_, _||_}
+use Prim.Native.Nat.{ℕ, zero, suc, _+_, _*_, _/_, _%_, _^_, _≤_, _<_}
+use native.Mathlib.Omega.{arith}
+use lib.Dec.{eqb, leb, ltb}
+use lib.ListN.{getD}
+use borrow.Author.Tests.{leb-true, ltb-true, eqb-true}
+use Rattle.ground.specs.Bits.{bitNumber}
+use Rattle.ground.specs.Values.{agree}
+use Rattle.clock.specs.declared.Source.{Source}
+use Rattle.clock.specs.declared.Source.the-variants.{Xtal, Rc, Ext}
+use Rattle.commands.specs.declared.Bias.{Bias}
+use Rattle.commands.specs.declared.Bias.the-variants.{Half, Third}
+use Rattle.commands.specs.declared.Commons.{Commons}
+use Rattle.commands.specs.declared.Commons.the-variants.{Two, Three, Four}
+use Rattle.commands.specs.Numbers.{biasNumber, commonsNumber}
+use Rattle.rules.specs.declared.Pitch.{Pitch}
+use Rattle.rules.specs.declared.Pitch.the-variants.{FourK, TwoK}
+use Rattle.rules.specs.declared.IrqSource.{IrqSource}
+use Rattle.rules.specs.declared.IrqSource.the-variants.{Neither, TimeBase, Flag}
+use Rattle.rules.specs.Numbers.{sourceNumber, pitchNumber, irqSourceNumber}
+use Rattle.frames.specs.declared.Levels.{Levels}
+use Rattle.frames.specs.declared.Phase.{Phase}
+use Rattle.frames.specs.declared.Phase.the-variants.{Idle, Ident, ReadTo, WriteTo, Reading, Writing, Command, Dead}
+use Rattle.frames.specs.declared.Line.{Line}
+use Rattle.frames.specs.declared.Line.the-variants.{Released, Driven}
+use Rattle.frames.specs.Samples.{levels}
+use Rattle.frames.specs.Frames.{address}
+use Rattle.frames.specs.Answers.{unfinished}
+use Rattle.state.specs.declared.SourceRead.the-variants.{From}
+use Rattle.state.specs.declared.BiasRead.the-variants.{Biased}
+use Rattle.state.specs.declared.CommonsRead.the-variants.{Has}
+use Rattle.state.specs.declared.PitchRead.the-variants.{Sounds}
+use Rattle.state.specs.declared.IrqSourceRead.the-variants.{Of}
+use Rattle.state.specs.FrameCodes.{linesNumber, phaseRead, isPhase, phaseIn, phaseNumber, valueOf, positionOf, lineRead, isLine, lineIn, lineNumber}
+use Rattle.state.specs.Selections.{sourceRead, isSource, sourceIn, biasRead, isBias, biasIn, commonsRead, isCommons, commonsIn, pitchRead, isPitch, pitchIn, irqSourceRead, isIrqSource, irqSourceIn}
+
+-- ---- written and read
+
+pub bit-back : (bit : Bool) → eqb (bitNumber bit) 1 ≡ bit
+bit-back true = refl
+bit-back false = refl
+
+pub levels-back : (l : Levels) → levels (linesNumber l) ≡ l
+levels-back l = by (l .cs) (l .wr) (l .rd) (l .bit)
+  where
+    by : (cs wr rd bit : Bool) → levels (bitNumber cs + 2 * bitNumber wr + 4 * bitNumber rd + 8 * bitNumber bit)
+        ≡ record { cs = cs; wr = wr; rd = rd; bit = bit }
+    by false false false false = refl
+    by false false false true = refl
+    by false false true false = refl
+    by false false true true = refl
+    by false true false false = refl
+    by false true false true = refl
+    by false true true false = refl
+    by false true true true = refl
+    by true false false false = refl
+    by true false false true = refl
+    by true false true false = refl
+    by true false true true = refl
+    by true true false false = refl
+    by true true false true = refl
+    by true true true false = refl
+    by true true true true = refl
+
+pub phase-back : (phase : Phase)
+    → phaseIn (phaseRead (phaseNumber phase) (unfinished phase) (valueOf phase) (address phase) (positionOf phase)) ≡ phase
+unfolding phaseRead
+phase-back Idle = refl
+phase-back (Ident count value) = refl
+phase-back (ReadTo count value) = refl
+phase-back (WriteTo count value) = refl
+phase-back (Reading at position) = refl
+phase-back (Writing count value at position) = refl
+phase-back (Command count value) = refl
+phase-back Dead = refl
+
+pub line-back : (line : Line) → lineIn (lineRead (lineNumber line)) ≡ line
+unfolding lineRead
+line-back Released = refl
+line-back (Driven true) = refl
+line-back (Driven false) = refl
+
+pub source-back : (source : Source) → sourceRead (sourceNumber source) ≡ From source
+unfolding sourceRead
+source-back Xtal = refl
+source-back Rc = refl
+source-back Ext = refl
+
+pub bias-back : (bias : Bias) → biasRead (biasNumber bias) ≡ Biased bias
+unfolding biasRead
+bias-back Half = refl
+bias-back Third = refl
+
+pub commons-back : (commons : Commons) → commonsRead (commonsNumber commons) ≡ Has commons
+unfolding commonsRead
+commons-back Two = refl
+commons-back Three = refl
+commons-back Four = refl
+
+pub pitch-back : (pitch : Pitch) → pitchRead (pitchNumber pitch) ≡ Sounds pitch
+unfolding pitchRead
+pitch-back FourK = refl
+pitch-back TwoK = refl
+
+pub irqSource-back : (source : IrqSource) → irqSourceRead (irqSourceNumber source) ≡ Of source
+unfolding irqSourceRead
+irqSource-back Neither = refl
+irqSource-back TimeBase = refl
+irqSource-back Flag = refl
+
+-- ---- read and written, each by one computed test
+
+pub bit-again : (n : ℕ) → n ≤ 1 → bitNumber (eqb n 1) ≡ n
+bit-again n h = agree (λ (k : ℕ). bitNumber (eqb k 1)) (λ (k : ℕ). k) 2 refl n (omega arith)
+
+pub lines-again : (n : ℕ) → n ≤ 15 → linesNumber (levels n) ≡ n
+lines-again n h = agree (λ (k : ℕ). linesNumber (levels k)) (λ (k : ℕ). k) 16 refl n (omega arith)
+
+pub line-again : (n : ℕ) → n ≤ 2 → lineNumber (lineIn (lineRead n)) ≡ n
+unfolding lineRead
+line-again n h = agree (λ (k : ℕ). lineNumber (lineIn (lineRead k))) (λ (k : ℕ). k) 3 refl n (omega arith)
+
+pub source-again : (n : ℕ) → n ≤ 2 → sourceNumber (sourceIn (sourceRead n)) ≡ n
+unfolding sourceRead
+source-again n h = agree (λ (k : ℕ). sourceNumber (sourceIn (sourceRead k))) (λ (k : ℕ). k) 3 refl n (omega arith)
+
+pub irqSource-again : (n : ℕ) → n ≤ 2 → irqSourceNumber (irqSourceIn (irqSourceRead n)) ≡ n
+unfolding irqSourceRead
+irqSource-again n h = agree (λ (k : ℕ). irqSourceNumber (irqSourceIn (irqSourceRead k))) (λ (k : ℕ). k) 3 refl n (omega arith)
+
+pub bias-again : (n : ℕ) → n ≤ 3 → isBias (biasRead n) ≡ true → biasNumber (biasIn (biasRead n)) ≡ n
+unfolding biasRead
+bias-again n h e =
+    rw e at (agree (λ (k : ℕ). cond (isBias (biasRead k)) (biasNumber (biasIn (biasRead k))) k) (λ (k : ℕ). k) 4 refl n (omega arith))
+
+pub commons-again : (n : ℕ) → n ≤ 4 → isCommons (commonsRead n) ≡ true → commonsNumber (commonsIn (commonsRead n)) ≡ n
+unfolding commonsRead
+commons-again n h e =
+    rw e at (agree (λ (k : ℕ). cond (isCommons (commonsRead k)) (commonsNumber (commonsIn (commonsRead k))) k) (λ (k : ℕ). k) 5
+    refl n (omega arith))
+
+pub pitch-again : (n : ℕ) → n ≤ 4 → isPitch (pitchRead n) ≡ true → pitchNumber (pitchIn (pitchRead n)) ≡ n
+unfolding pitchRead
+pitch-again n h e =
+    rw e at (agree (λ (k : ℕ). cond (isPitch (pitchRead k)) (pitchNumber (pitchIn (pitchRead k))) k) (λ (k : ℕ). k) 5
+    refl n (omega arith))

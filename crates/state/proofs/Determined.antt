@@ -1,0 +1,14 @@
+-- Each public contract of this crate determines its result, and the bytes that it leaves: they are equations, and both
+-- results meet them. Assumes nothing.
+use mathlib.Core.Path.{_∙_, sym}
+use Rattle.ground.specs.Determined.{Determined, DeterminedWith}
+use Rattle.state.proofs.read.Kinds as read-kinds
+use Rattle.state.proofs.read.Reads as read-reads
+use Rattle.state.proofs.write.Kinds as write-kinds
+use Rattle.state.proofs.write.Reads as write-reads
+
+pub read-determined : Determined 1 read-kinds.ps read-kinds.r read-reads.Post
+read-determined κs args x y end end' p q = p ∙ sym q
+
+pub write-determined : DeterminedWith 1 write-kinds.ps write-kinds.r (λ κs end. end .1 .0 .now) write-reads.Post
+write-determined κs args x y end end' p q = (p .0 ∙ sym (q .0), p .1 ∙ sym (q .1))

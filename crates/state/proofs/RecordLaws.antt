@@ -1,0 +1,189 @@
+-- Laws that the proofs of this crate's functions cite: ranges, the power of a count, bytes put over a buffer, and what
+-- reading found. Assumes nothing.
+use mathlib.Core.Path.{_≡_, _∙_, refl, sym, ap}
+use mathlib.Core.Bool.{Bool, true, false, cond}
+use mathlib.Core.List.{List, [], _∷_, _++_, append-nil}
+use Prim.Native.Nat.{ℕ, zero, suc, _+_, _*_, _/_, _^_, _≤_, _<_, min}
+use native.Mathlib.Omega.{arith}
+use native.Mathlib.Nat.{div-eq-of-lt, div-lt-iff-lt-mul, zero-add, one-mul}
+use native.Mathlib.Numerals.{add-one}
+use lib.Dec.{ltb, leb, eqb}
+use lib.ListN.{length, take, drop, getD, set, replicate, length-append, drop-of-length-le}
+use lib.Pow.{pow-pos}
+use lib.Seq.{paste, paste-suc, length-paste, drop-cons}
+use mir.Val.{boolByte}
+use borrow.Author.Tests.{ltb-true, ltb-false, lt-ltb, le-ltb, le-leb, lt-leb, eq-eqb, ne-eqb}
+use Rattle.ground.specs.Written.{over, first32}
+use Rattle.ground.proofs.WrittenLaws.{over-paste, over-over}
+use Rattle.rules.specs.declared.Settings.{Settings}
+use Rattle.frames.specs.declared.Phase.{Phase}
+use Rattle.frames.specs.declared.Line.{Line}
+use Rattle.frames.specs.Samples.{levels}
+use Rattle.chip.specs.declared.Chip.{Chip}
+use Rattle.state.specs.declared.FrameRead.{FrameRead}
+use Rattle.state.specs.declared.FrameRead.the-variants.{Framed, NoFrame}
+use Rattle.state.specs.declared.SettingsRead.the-variants.{Set, NoSettings}
+use Rattle.state.specs.declared.Reading.{Reading}
+use Rattle.state.specs.declared.Verdict.the-variants as verdict
+use Rattle.state.specs.Answers.{frameRead, settingsRead, malformed, readOf, writtenOver}
+use Rattle.state.specs.Record.{upTo, maxima, mostBits, byte, valueIn, framesRight, recordValid, frameRight, settingsRight, chipOf, tailOf, recordOf}
+
+-- ---- each byte at most its maximum: one that is leaves the rest to decide, one that is not decides, and none is left
+
+module _ (bytes most : List ℕ) (i : ℕ) where
+  pub upTo-passes : i < length bytes → i < length most → getD bytes i 0 ≤ getD most i 0
+      → upTo (drop i bytes) (drop i most) ≡ upTo (drop (i + 1) bytes) (drop (i + 1) most)
+  unfolding upTo
+  upTo-passes h k le = rw (add-one i, drop-cons bytes i 0 h, drop-cons most i 0 k, le-leb _ _ le)
+
+  pub upTo-fails : i < length bytes → i < length most → getD most i 0 < getD bytes i 0
+      → upTo (drop i bytes) (drop i most) ≡ false
+  unfolding upTo
+  upTo-fails h k lt = rw (drop-cons bytes i 0 h, drop-cons most i 0 k, lt-leb _ _ lt)
+
+  pub upTo-ends : length bytes ≤ i → upTo (drop i bytes) (drop i most) ≡ true
+  unfolding upTo
+  upTo-ends h = rw (drop-of-length-le bytes h)
+
+-- ---- unfinished bits
+
+pub most-small : (code : ℕ) → getD mostBits code 0 ≤ 8
+most-small zero = omega arith
+most-small (suc zero) = omega arith
+most-small (suc (suc zero)) = omega arith
+most-small (suc (suc (suc zero))) = omega arith
+most-small (suc (suc (suc (suc zero)))) = omega arith
+most-small (suc (suc (suc (suc (suc zero))))) = omega arith
+most-small (suc (suc (suc (suc (suc (suc zero)))))) = omega arith
+most-small (suc (suc (suc (suc (suc (suc (suc zero))))))) = omega arith
+most-small (suc (suc (suc (suc (suc (suc (suc (suc code)))))))) = omega arith
+
+-- a value is below a power exactly if nothing of it is left above
+pub below-power : (value count : ℕ) → eqb (value / 2 ^ count) 0 ≡ ltb value (2 ^ count)
+below-power value count = by (ltb value (2 ^ count)) refl
+  where
+    by : (t : Bool) → ltb value (2 ^ count) ≡ t → eqb (value / 2 ^ count) 0 ≡ t
+    by true e = eq-eqb (value / 2 ^ count) 0 (div-eq-of-lt (ltb-true value (2 ^ count) e))
+    by false e =
+        ne-eqb (value / 2 ^ count) 0 (λ z.
+        let small : value < 1 * 2 ^ count =
+        div-lt-iff-lt-mul {k = 2 ^ count} {x = value} {y = 1} (pow-pos count) .0 (omega (arith, z)) in
+        let no : ⊥ = omega (arith, ltb-false value (2 ^ count) e, one-mul (2 ^ count)) in
+        absurd no)
+
+pub boolByte-small : (bit : Bool) → boolByte bit ≤ 1
+boolByte-small true = omega arith
+boolByte-small false = omega arith
+
+-- ---- a block put over a buffer: one byte more, the length, the whole of it, and one after another
+
+module _ (buffer block now : List ℕ) (at i : ℕ) (e : now ≡ paste buffer at block i) where
+  pub put-next : at + i < length buffer → i < length block → set now (at + i) (getD block i 0) ≡ paste buffer at block (i + 1)
+  put-next room more = rw (e, add-one i) (paste-suc buffer at block i 0 room more)
+
+  pub put-length : at + i ≤ length buffer → i ≤ length block → length now ≡ length buffer
+  put-length room more = ap length e ∙ length-paste buffer at block i room more
+
+  pub put-whole : i ≡ length block → now ≡ over buffer at block
+  put-whole whole = e ∙ ap (paste buffer at block) whole ∙ over-paste buffer block at
+
+pub put-after : (buffer first second : List ℕ) → length first ≡ 32 → length second ≡ 32 → 64 ≤ length buffer
+    → over (over buffer 0 first) 32 second ≡ over buffer 0 (first ++ second)
+put-after buffer first second h k room =
+    ap (λ (n : ℕ). over (over buffer 0 first) n second) (sym h ∙ sym (zero-add (length first)))
+    ∙ over-over buffer first second 0 (omega arith)
+
+-- the memory and the tail after it are the record
+pub put-record : (chip : Chip) (buffer tail between after : List ℕ)
+    → length (chip .port .memory) ≡ 32 → length tail ≡ 32 → 64 ≤ length buffer
+    → tail ≡ tailOf chip → between ≡ over buffer 0 (chip .port .memory) → after ≡ over between 32 tail
+    → after ≡ writtenOver chip buffer
+unfolding writtenOver recordOf
+put-record chip buffer tail between after h k room t e f =
+    rw (le-ltb (length buffer) 64 room)
+    (f ∙ ap (λ (l : List ℕ). over l 32 tail) e ∙ put-after buffer (chip .port .memory) tail h k room
+    ∙ ap (λ (l : List ℕ). over buffer 0 (chip .port .memory ++ l)) t)
+
+-- ---- the memory of a record is its first 32 bytes
+
+pub memory-taken : (bytes : List ℕ) → length bytes ≡ 64 → first32 bytes ≡ take 32 bytes
+memory-taken bytes h = rw h (append-nil (take 32 bytes))
+
+-- ---- what a reading found tells whether the bytes are right
+
+module _ (right : Bool) (phase : Phase) (line : Line) where
+  pub frame-none : cond right (Framed phase line) NoFrame ≡ NoFrame → right ≡ false
+  frame-none = by right
+    where
+      by : (t : Bool) → cond t (Framed phase line) NoFrame ≡ NoFrame → t ≡ false
+      by true e = cc
+      by false e = refl
+
+  pub frame-found : (p : Phase) (l : Line) → cond right (Framed phase line) NoFrame ≡ Framed p l
+      → (right ≡ true) × (phase ≡ p) × (line ≡ l)
+  frame-found p l = by right
+    where
+      by : (t : Bool) → cond t (Framed phase line) NoFrame ≡ Framed p l → (t ≡ true) × (phase ≡ p) × (line ≡ l)
+      by true e = (refl, cc, cc)
+      by false e = (cc, cc, cc)
+
+module _ (right : Bool) (settings : Settings) where
+  pub settings-none : cond right (Set settings) NoSettings ≡ NoSettings → right ≡ false
+  settings-none = by right
+    where
+      by : (t : Bool) → cond t (Set settings) NoSettings ≡ NoSettings → t ≡ false
+      by true e = cc
+      by false e = refl
+
+  pub settings-found : (s : Settings) → cond right (Set settings) NoSettings ≡ Set s → (right ≡ true) × (settings ≡ s)
+  settings-found s = by right
+    where
+      by : (t : Bool) → cond t (Set settings) NoSettings ≡ Set s → (t ≡ true) × (settings ≡ s)
+      by true e = (refl, cc)
+      by false e = (cc, cc)
+
+-- ---- what reading answers, by the tests in turn
+
+abbrev frameIn : List ℕ → FrameRead
+frameIn b = frameRead (byte b 32) (byte b 33) (byte b 34) (valueIn b) (byte b 37) (byte b 38) (byte b 39)
+
+abbrev valid-reading : List ℕ → ℕ → Phase → Line → Settings → Reading
+valid-reading memory lines phase line settings =
+    record {
+      answer = verdict.Valid;
+      chip = record { port = record { memory = memory; levels = levels lines; phase = phase; line = line }; settings = settings };
+    }
+
+pub read-length : (b : List ℕ) → (length b ≡ 64 → ⊥) → malformed ≡ readOf b
+unfolding readOf recordValid
+read-length b h = rw (ne-eqb _ _ h)
+
+module _ (b : List ℕ) (long : length b ≡ 64) where
+  pub read-range : upTo b maxima ≡ false → malformed ≡ readOf b
+  unfolding readOf recordValid
+  read-range e = rw (eq-eqb _ _ long, e)
+
+  module _ (fits : upTo b maxima ≡ true) where
+    pub read-frame : frameIn b ≡ NoFrame → malformed ≡ readOf b
+    unfolding readOf recordValid frameRead
+    read-frame e =
+        let none : framesRight b ≡ false = frame-none _ _ _ e in
+        rw (eq-eqb _ _ long, fits, none)
+
+    module _ (phase : Phase) (line : Line) (found : frameIn b ≡ Framed phase line) where
+      pub read-settings : settingsRead b ≡ NoSettings → malformed ≡ readOf b
+      unfolding readOf recordValid frameRead settingsRead
+      read-settings e =
+          let right : framesRight b ≡ true = frame-found _ _ _ phase line found .0 in
+          let none : settingsRight b ≡ false = settings-none _ _ e in
+          rw (eq-eqb _ _ long, fits, right, none)
+
+      pub read-whole : (settings : Settings) (memory : List ℕ) → settingsRead b ≡ Set settings → memory ≡ first32 b
+          → valid-reading memory (byte b 32) phase line settings ≡ readOf b
+      unfolding readOf recordValid frameRead settingsRead chipOf
+      read-whole settings memory e m =
+          let frame = frame-found _ _ _ phase line found in
+          let rest = settings-found _ _ settings e in
+          let right : framesRight b ≡ true = frame .0 in
+          let selected : settingsRight b ≡ true = rest .0 in
+          rw (eq-eqb _ _ long, fits, right, selected, m, memory-taken b long, ← frame .1, ← frame .2, ← rest .1)

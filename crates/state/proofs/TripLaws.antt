@@ -1,0 +1,108 @@
+-- The record's round trip: a valid record read and written again is the same bytes, and says a valid chip; a valid chip
+-- written is a valid record, and read again the same chip. Assumes nothing.
+use mathlib.Core.Path.{_≡_, _∙_, refl, sym, ap}
+use mathlib.Core.Bool.{Bool, true, false, _&&_}
+use mathlib.Core.List.{List, [], _∷_, _++_, append-assoc}
+use Prim.Native.Nat.{ℕ, zero, suc, _+_, _*_, _/_, _%_, _≤_, _<_}
+use native.Mathlib.Omega.{arith}
+use native.Mathlib.Nat.{add-zero, add-suc, suc-add, mod-add-div, add-mul-mod-self-left, add-mul-div-left, mod-eq-of-lt, div-eq-of-lt}
+use lib.Dec.{eqb}
+use lib.ListN.{length, take, drop, getD, replicate, take-append-drop, length-drop}
+use lib.Seq.{drop-cons, length-take-le}
+use borrow.Author.Tests.{eqb-true}
+use Rattle.chip.specs.declared.Chip.{Chip}
+use Rattle.state.specs.Selections.{sourceRead, isSource, biasRead, isBias, commonsRead, isCommons, pitchRead, isPitch, irqSourceRead, isIrqSource}
+use Rattle.state.specs.Record.{upTo, maxima, byte, valueIn, framesRight, settingsRight, recordValid, recordOf, tailOf, chipOf, settingsOf}
+use Rattle.state.proofs.RangesLaws.{each-of-4, each-of-5, upTo-at, upTo-drop, upTo-zeros}
+use Rattle.state.proofs.CodesLaws.{bit-again, lines-again, line-again, source-again, irqSource-again, bias-again, commons-again, pitch-again}
+use Rattle.state.proofs.FramesLaws.{FrameSame, frame-has, frame-same}
+
+-- the n elements from a place on
+abbrev pub gather : ℕ → ℕ → List ℕ → List ℕ
+gather zero at l = []
+gather (suc n) at l = getD l at 0 ∷ gather n (suc at) l
+
+pub gathered : (n at : ℕ) (l : List ℕ) → at + n ≤ length l → drop at l ≡ gather n at l ++ drop (at + n) l
+gathered zero at l h = ap (λ (k : ℕ). drop k l) (sym (add-zero at))
+gathered (suc n) at l h =
+    let e : suc at + n ≡ at + suc n = suc-add at n ∙ sym (add-suc at n) in
+    drop-cons l at 0 (omega (arith, e))
+    ∙ ap (λ (t : List ℕ). getD l at 0 ∷ t) (gathered n (suc at) l (omega (arith, e)))
+    ∙ ap (λ (k : ℕ). getD l at 0 ∷ (gather n (suc at) l ++ drop k l)) e
+
+-- What a valid record has.
+pub record RecordHas (b : List ℕ) : Type 0 where
+  pub long : length b ≡ 64
+  pub fits : upTo b maxima ≡ true
+  pub frame : framesRight b ≡ true
+  pub settings : settingsRight b ≡ true
+
+pub valid-has : (b : List ℕ) → recordValid b ≡ true → RecordHas b
+unfolding recordValid
+valid-has b v =
+    let each = each-of-4 (eqb (length b) 64) (upTo b maxima) (framesRight b) (settingsRight b) v in
+    record { long = eqb-true (length b) 64 (each .0); fits = each .1; frame = each .2; settings = each .3 }
+
+module _ (b : List ℕ) (has : RecordHas b) where
+  -- each byte in its range
+  pub within : (i : ℕ) → i < 64 → byte b i ≤ getD maxima i 0
+  within i h = upTo-at b maxima i (has .fits) (omega (arith, has .long)) h
+
+  -- the bytes of a frame are written the same
+  same : FrameSame (byte b 33) (byte b 34) (valueIn b) (byte b 37) (byte b 38)
+      (chipOf b .port .phase)
+  unfolding chipOf
+  same =
+      frame-same (byte b 32) (byte b 34) (valueIn b) (byte b 37) (byte b 38) (byte b 39) (byte b 33) (within 33 (omega arith))
+      (frame-has (byte b 32) (byte b 33) (byte b 34) (valueIn b) (byte b 37) (byte b 38) (byte b 39) (has .frame))
+
+  value-low : valueIn b % 256 ≡ byte b 35
+  value-low = add-mul-mod-self-left (byte b 35) 256 (byte b 36) ∙ mod-eq-of-lt (omega (arith, within 35 (omega arith)))
+
+  value-high : valueIn b / 256 ≡ byte b 36
+  value-high =
+      let none : byte b 35 / 256 ≡ 0 = div-eq-of-lt (omega (arith, within 35 (omega arith))) in
+      add-mul-div-left (byte b 35) (byte b 36) {y = 256} (omega arith) ∙ omega (arith, none)
+
+  -- and all that follow the memory
+  tail-same : tailOf (chipOf b) ≡ gather 26 32 b ++ replicate 6 0
+  unfolding tailOf chipOf settingsOf settingsRight
+  tail-same =
+      let each = each-of-5 (isSource (sourceRead (byte b 41))) (isBias (biasRead (byte b 43))) (isCommons (commonsRead (byte b 44)))
+      (isPitch (pitchRead (byte b 46))) (isIrqSource (irqSourceRead (byte b 50))) (has .settings) in
+      simp (
+        same .code-same,
+        same .count-same,
+        same .value-same,
+        same .address-same,
+        same .position-same,
+        value-low,
+        value-high,
+        lines-again (byte b 32) (within 32 (omega arith)),
+        line-again (byte b 39) (within 39 (omega arith)),
+        bit-again (byte b 40) (within 40 (omega arith)),
+        source-again (byte b 41) (within 41 (omega arith)),
+        bit-again (byte b 42) (within 42 (omega arith)),
+        bias-again (byte b 43) (within 43 (omega arith)) (each .1),
+        commons-again (byte b 44) (within 44 (omega arith)) (each .2),
+        bit-again (byte b 45) (within 45 (omega arith)),
+        pitch-again (byte b 46) (within 46 (omega arith)) (each .3),
+        bit-again (byte b 47) (within 47 (omega arith)),
+        bit-again (byte b 49) (within 49 (omega arith)),
+        irqSource-again (byte b 50) (within 50 (omega arith)),
+        bit-again (byte b 51) (within 51 (omega arith)),
+        bit-again (byte b 57) (within 57 (omega arith)),
+      )
+
+  record-same : recordOf (chipOf b) ≡ b
+  unfolding recordOf chipOf
+  record-same =
+      let last : drop 58 b ≡ replicate 6 0 =
+      upTo-zeros 6 (drop 58 b) (length-drop 58 b ∙ omega (arith, has .long)) (upTo-drop 58 b maxima (has .fits)) in
+      let rest : gather 26 32 b ++ replicate 6 0 ≡ drop 32 b =
+      ap (λ (l : List ℕ). gather 26 32 b ++ l) (sym last) ∙ sym (gathered 26 32 b (omega (arith, has .long))) in
+      ap (λ (l : List ℕ). take 32 b ++ l) (tail-same ∙ rest) ∙ take-append-drop 32 b
+
+-- A valid record read and written again is the same bytes.
+pub trip : (b : List ℕ) → recordValid b ≡ true → recordOf (chipOf b) ≡ b
+trip b v = record-same b (valid-has b v)

@@ -1,0 +1,55 @@
+-- 01 "State record and simulator" and its refusals in "Driver streams": what reading and writing a record answer.
+-- Assumes nothing.
+use Prim.Native.Nat.{ℕ}
+use mathlib.Core.Bool.{cond}
+use mathlib.Core.List.{List}
+use lib.Dec.{ltb}
+use lib.ListN.{length, replicate}
+use Rattle.ground.specs.declared.Refusal.the-variants.{OutputShort, Malformed}
+use Rattle.ground.specs.Refusals.{refusalNumber}
+use Rattle.ground.specs.Written.{over}
+use Rattle.chip.specs.declared.Chip.{Chip}
+use Rattle.chip.specs.PowerOn.{freshChip}
+use Rattle.state.specs.declared.FrameRead.{FrameRead}
+use Rattle.state.specs.declared.FrameRead.the-variants.{Framed, NoFrame}
+use Rattle.state.specs.declared.SettingsRead.{SettingsRead}
+use Rattle.state.specs.declared.SettingsRead.the-variants.{Set, NoSettings}
+use Rattle.state.specs.declared.Reading.{Reading}
+use Rattle.state.specs.declared.Verdict.{Verdict}
+use Rattle.state.specs.declared.Verdict.the-variants as verdict
+use Rattle.state.specs.declared.Written.{Written}
+use Rattle.state.specs.declared.Written.the-variants as written
+use Rattle.state.specs.FrameCodes.{phaseRead, phaseIn, lineRead, lineIn}
+use Rattle.state.specs.Record.{frameRight, settingsRight, settingsOf, recordValid, recordOf, chipOf}
+
+-- The paper's numbers: 0 for a valid record, the count for bytes written, else the refusal's.
+abbrev pub verdictNumber : Verdict → ℕ
+verdictNumber verdict.Valid = 0
+verdictNumber (verdict.Refused refusal) = refusalNumber refusal
+
+abbrev pub writtenNumber : Written → ℕ
+writtenNumber (written.Bytes count) = count
+writtenNumber (written.Refused refusal) = refusalNumber refusal
+
+-- The bytes of a frame, and those of the settings, where they are right.
+unfoldable pub frameRead : ℕ → ℕ → ℕ → ℕ → ℕ → ℕ → ℕ → FrameRead
+frameRead lines code count value at position line =
+    cond (frameRight lines code count value at position line)
+    (Framed (phaseIn (phaseRead code count value at position)) (lineIn (lineRead line))) NoFrame
+
+unfoldable pub settingsRead : List ℕ → SettingsRead
+settingsRead b = cond (settingsRight b) (Set (settingsOf b)) NoSettings
+
+-- 28: a malformed record hands out a chip at power-on with an empty memory.
+abbrev pub malformed : Reading
+malformed = record { answer = verdict.Refused Malformed; chip = freshChip (replicate 32 0) }
+
+unfoldable pub readOf : List ℕ → Reading
+readOf b = cond (recordValid b) (record { answer = verdict.Valid; chip = chipOf b }) malformed
+
+-- 25 where the buffer is shorter than a record; else the 64 bytes over its start.
+unfoldable pub writtenAs : List ℕ → Written
+writtenAs buffer = cond (ltb (length buffer) 64) (written.Refused OutputShort) (written.Bytes 64)
+
+unfoldable pub writtenOver : Chip → List ℕ → List ℕ
+writtenOver chip buffer = cond (ltb (length buffer) 64) buffer (over buffer 0 (recordOf chip))

@@ -1,0 +1,4 @@
+pub mod Answers
+pub mod FrameCodes
+pub mod Record
+pub mod Selections

@@ -1,0 +1,671 @@
+// The state record: a chip as 64 bytes, read and written. A record is read only if it is valid, and then what is written
+// again is the same bytes. Assumes nothing.
+ghost use mathlib.Core.Path.{_≡_};
+ghost use Prim.Native.Nat.{_+_, _*_, _/_, _%_, _≤_};
+ghost use lib.Dec.{eqb};
+ghost use lib.ListN.{length, getD};
+ghost use Rattle.ground.specs.Written.{over};
+ghost use Rattle.frames.specs.Answers.{unfinished};
+ghost use Rattle.commands.specs.Numbers.{biasNumber};
+ghost use Rattle.rules.specs.Numbers.{sourceNumber, pitchNumber, irqSourceNumber};
+ghost use Rattle.state.specs.FrameCodes.{phaseRead, lineRead, phaseNumber, valueOf, positionOf, lineNumber, linesNumber};
+ghost use Rattle.state.specs.Selections.{sourceRead, biasRead, commonsRead, pitchRead, irqSourceRead};
+ghost use Rattle.state.specs.Answers.{frameRead, settingsRead, malformed, readOf, writtenAs, writtenOver};
+ghost use Rattle.state.specs.Record.{upTo, maxima, mostBits, goesWithCs, bitsRight, restRight, tailOf};
+use chip::Chip;
+use chip::Port;
+use clock::BaseCounter;
+use clock::Counters;
+use clock::Divider;
+use clock::Prescaler;
+use clock::Source;
+use clock::Timer;
+use clock::Toner;
+use clock::Watchdog;
+use commands::Bias;
+use commands::Commons;
+use frames::Levels;
+use frames::Line;
+use frames::Phase;
+use ground::Refusal;
+use rules::Base;
+use rules::Irq;
+use rules::IrqSource;
+use rules::Lcd;
+use rules::Pitch;
+use rules::Settings;
+use rules::System;
+use rules::Tone;
+
+// What a coded byte reads to.
+pub enum PhaseRead {
+    Phased(Phase),
+    NoPhase,
+}
+
+pub enum LineRead {
+    Does(Line),
+    NoLine,
+}
+
+pub enum SourceRead {
+    From(Source),
+    NoSource,
+}
+
+pub enum BiasRead {
+    Biased(Bias),
+    NoBias,
+}
+
+pub enum CommonsRead {
+    Has(Commons),
+    NoCommons,
+}
+
+pub enum PitchRead {
+    Sounds(Pitch),
+    NoPitch,
+}
+
+pub enum IrqSourceRead {
+    Of(IrqSource),
+    NoIrqSource,
+}
+
+// What the bytes of a frame read to, and those of the settings.
+pub enum FrameRead {
+    Framed(Phase, Line),
+    NoFrame,
+}
+
+pub enum SettingsRead {
+    Set(Settings),
+    NoSettings,
+}
+
+// Whether a record was accepted.
+pub enum Verdict {
+    Valid,
+    Refused(Refusal),
+}
+
+// The chip that a record says; where it was refused, one at power-on with zeros for its memory.
+pub struct Reading {
+    pub answer: Verdict,
+    pub chip: Chip,
+}
+
+// How many bytes were written.
+pub enum Written {
+    Bytes(usize),
+    Refused(Refusal),
+}
+
+// Byte 33, with the bytes that a phase carries.
+fn phase_of(code: u8, count: u8, value: u16, at: u8, position: u8) -> PhaseRead
+    ensures { λ r. ⌜ r ≡ phaseRead code count value at position ⌝ }
+{
+    match code {
+        0 => PhaseRead::Phased(Phase::Idle),
+        1 => PhaseRead::Phased(Phase::Ident(count, value)),
+        2 => PhaseRead::Phased(Phase::ReadTo(count, value)),
+        3 => PhaseRead::Phased(Phase::WriteTo(count, value)),
+        4 => PhaseRead::Phased(Phase::Reading(at, position)),
+        5 => PhaseRead::Phased(Phase::Writing(count, value, at, position)),
+        6 => PhaseRead::Phased(Phase::Command(count, value)),
+        7 => PhaseRead::Phased(Phase::Dead),
+        _ => PhaseRead::NoPhase,
+    }
+}
+
+// Byte 39.
+fn line_of(code: u8) -> LineRead
+    ensures { λ r. ⌜ r ≡ lineRead code ⌝ }
+{
+    match code {
+        0 => LineRead::Does(Line::Released),
+        1 => LineRead::Does(Line::Driven(false)),
+        2 => LineRead::Does(Line::Driven(true)),
+        _ => LineRead::NoLine,
+    }
+}
+
+// Byte 41.
+fn source_of(code: u8) -> SourceRead
+    ensures { λ r. ⌜ r ≡ sourceRead code ⌝ }
+{
+    match code {
+        0 => SourceRead::From(Source::Xtal),
+        1 => SourceRead::From(Source::Rc),
+        2 => SourceRead::From(Source::Ext),
+        _ => SourceRead::NoSource,
+    }
+}
+
+// Byte 43.
+fn bias_of(code: u8) -> BiasRead
+    ensures { λ r. ⌜ r ≡ biasRead code ⌝ }
+{
+    match code {
+        2 => BiasRead::Biased(Bias::Half),
+        3 => BiasRead::Biased(Bias::Third),
+        _ => BiasRead::NoBias,
+    }
+}
+
+// Byte 44.
+fn commons_of(code: u8) -> CommonsRead
+    ensures { λ r. ⌜ r ≡ commonsRead code ⌝ }
+{
+    match code {
+        2 => CommonsRead::Has(Commons::Two),
+        3 => CommonsRead::Has(Commons::Three),
+        4 => CommonsRead::Has(Commons::Four),
+        _ => CommonsRead::NoCommons,
+    }
+}
+
+// Byte 46.
+fn pitch_of(code: u8) -> PitchRead
+    ensures { λ r. ⌜ r ≡ pitchRead code ⌝ }
+{
+    match code {
+        4 => PitchRead::Sounds(Pitch::FourK),
+        2 => PitchRead::Sounds(Pitch::TwoK),
+        _ => PitchRead::NoPitch,
+    }
+}
+
+// Byte 50.
+fn irq_source_of(code: u8) -> IrqSourceRead
+    ensures { λ r. ⌜ r ≡ irqSourceRead code ⌝ }
+{
+    match code {
+        0 => IrqSourceRead::Of(IrqSource::Neither),
+        1 => IrqSourceRead::Of(IrqSource::TimeBase),
+        2 => IrqSourceRead::Of(IrqSource::Flag),
+        _ => IrqSourceRead::NoIrqSource,
+    }
+}
+
+// The most that each byte can be.
+const MAXIMA: [u8; 64] = [
+    15,
+    15,
+    15,
+    15,
+    15,
+    15,
+    15,
+    15,
+    15,
+    15,
+    15,
+    15,
+    15,
+    15,
+    15,
+    15,
+    15,
+    15,
+    15,
+    15,
+    15,
+    15,
+    15,
+    15,
+    15,
+    15,
+    15,
+    15,
+    15,
+    15,
+    15,
+    15,
+    15,
+    7,
+    8,
+    255,
+    255,
+    31,
+    3,
+    2,
+    1,
+    2,
+    1,
+    3,
+    4,
+    1,
+    4,
+    1,
+    7,
+    1,
+    2,
+    1,
+    7,
+    15,
+    127,
+    255,
+    3,
+    1,
+    0,
+    0,
+    0,
+    0,
+    0,
+    0,
+];
+
+// Whether each byte is in range.
+fn in_range(bytes: &[u8]) -> bool
+    requires { ⌜ length (now bytes) ≡ 64 ⌝ }
+    ensures { λ r. ⌜ r ≡ upTo (now (bytes .entry)) maxima ⌝ }
+{
+    let most = MAXIMA;
+    let mut i: usize = 0;
+    while i < 64 {
+        if most[i] < bytes[i] {
+            return false;
+        }
+        i += 1;
+    }
+    true
+}
+
+// The most unfinished bits that a phase can have.
+const MOST_BITS: [u8; 8] = [0, 2, 5, 5, 0, 3, 8, 0];
+
+fn most_of(code: u8) -> u8
+    ensures { λ r. ⌜ r ≡ getD mostBits code 0 ⌝ }
+{
+    let most = MOST_BITS;
+    if code < 8 {
+        let i = code as usize;
+        return most[i];
+    }
+    0
+}
+
+// Whether there is no frame exactly while CS is high.
+fn goes_with_cs(lines: u8, code: u8) -> bool
+    ensures { λ r. ⌜ r ≡ goesWithCs lines code ⌝ }
+{
+    if lines % 2 == 1 {
+        return code == 0;
+    }
+    code != 0
+}
+
+// Whether a phase can have so many unfinished bits, and they this value.
+fn bits_right(code: u8, count: u8, value: u16) -> bool
+    ensures { λ r. ⌜ r ≡ bitsRight code count value ⌝ }
+{
+    if most_of(code) < count {
+        return false;
+    }
+    value >> count == 0
+}
+
+// Whether address, position and DATA are zero, or the phase can have them.
+fn rest_right(code: u8, at: u8, position: u8, line: u8) -> bool
+    ensures { λ r. ⌜ r ≡ restRight code at position line ⌝ }
+{
+    if code == 4 {
+        return true;
+    }
+    if code == 5 {
+        return true;
+    }
+    if at != 0 {
+        return false;
+    }
+    if position != 0 {
+        return false;
+    }
+    line == 0
+}
+
+// Bytes 32 to 39.
+fn frame_of(lines: u8, code: u8, count: u8, value: u16, at: u8, position: u8, line: u8) -> FrameRead
+    ensures { λ r. ⌜ r ≡ frameRead lines code count value at position line ⌝ }
+{
+    if !goes_with_cs(lines, code) {
+        return FrameRead::NoFrame;
+    }
+    if !bits_right(code, count, value) {
+        return FrameRead::NoFrame;
+    }
+    if !rest_right(code, at, position, line) {
+        return FrameRead::NoFrame;
+    }
+    let PhaseRead::Phased(phase) = phase_of(code, count, value, at, position) else {
+        return FrameRead::NoFrame;
+    };
+    let LineRead::Does(driven) = line_of(line) else {
+        return FrameRead::NoFrame;
+    };
+    FrameRead::Framed(phase, driven)
+}
+
+// Bytes 40 to 57.
+fn settings_of(bytes: &[u8]) -> SettingsRead
+    requires { ⌜ length (now bytes) ≡ 64 ⌝ }
+    ensures { λ r. ⌜ r ≡ settingsRead (now (bytes .entry)) ⌝ }
+{
+    let SourceRead::From(source) = source_of(bytes[41]) else {
+        return SettingsRead::NoSettings;
+    };
+    let BiasRead::Biased(bias) = bias_of(bytes[43]) else {
+        return SettingsRead::NoSettings;
+    };
+    let CommonsRead::Has(commons) = commons_of(bytes[44]) else {
+        return SettingsRead::NoSettings;
+    };
+    let PitchRead::Sounds(pitch) = pitch_of(bytes[46]) else {
+        return SettingsRead::NoSettings;
+    };
+    let IrqSourceRead::Of(irq) = irq_source_of(bytes[50]) else {
+        return SettingsRead::NoSettings;
+    };
+    SettingsRead::Set(Settings {
+        system: System {
+            on: bytes[40] == 1,
+            source,
+        },
+        lcd: Lcd {
+            on: bytes[42] == 1,
+            bias,
+            commons,
+        },
+        tone: Tone {
+            on: bytes[45] == 1,
+            pitch,
+        },
+        irq: Irq {
+            on: bytes[47] == 1,
+            source: irq,
+        },
+        base: Base {
+            on: bytes[49] == 1,
+            rate: bytes[48],
+        },
+        counters: Counters {
+            prescaler: Prescaler { count: bytes[52] },
+            toner: Toner { count: bytes[53] },
+            timer: Timer {
+                divider: Divider { count: bytes[54] },
+                base: BaseCounter { count: bytes[55] },
+                watchdog: Watchdog {
+                    count: bytes[56],
+                    flag: bytes[51] == 1,
+                },
+            },
+        },
+        test: bytes[57] == 1,
+    })
+}
+
+// The value of the unfinished bits, low byte first.
+fn value_from(low: u8, high: u8) -> u16
+    ensures { λ r. ⌜ r ≡ low + 256 * high ⌝ }
+{
+    low as u16 + 256 * (high as u16)
+}
+
+fn not_valid() -> Reading
+    ensures { λ r. ⌜ r ≡ malformed ⌝ }
+{
+    let zeros = [0u8; 32];
+    let started = chip::power_on(&zeros);
+    let chip = started.chip;
+    Reading {
+        answer: Verdict::Refused(Refusal::Malformed),
+        chip,
+    }
+}
+
+// The chip that a record says, if the record is valid.
+pub fn read(bytes: &[u8]) -> Reading
+    ensures { λ r. ⌜ r ≡ readOf (now (bytes .entry)) ⌝ }
+{
+    if bytes.len() != 64 {
+        return not_valid();
+    }
+    if !in_range(bytes) {
+        return not_valid();
+    }
+    let lines = bytes[32];
+    let value = value_from(bytes[35], bytes[36]);
+    let FrameRead::Framed(phase, line) = frame_of(
+        lines,
+        bytes[33],
+        bytes[34],
+        value,
+        bytes[37],
+        bytes[38],
+        bytes[39],
+    ) else {
+        return not_valid();
+    };
+    let SettingsRead::Set(settings) = settings_of(bytes) else {
+        return not_valid();
+    };
+    Reading {
+        answer: Verdict::Valid,
+        chip: Chip {
+            port: Port {
+                memory: ground::first_32(bytes),
+                levels: frames::levels_of(lines),
+                phase,
+                line,
+            },
+            settings,
+        },
+    }
+}
+
+// Byte 33.
+fn phase_number(phase: Phase) -> u8
+    ensures { λ r. ⌜ r ≡ phaseNumber phase ⌝ }
+{
+    match phase {
+        Phase::Idle => 0,
+        Phase::Ident(_, _) => 1,
+        Phase::ReadTo(_, _) => 2,
+        Phase::WriteTo(_, _) => 3,
+        Phase::Reading(_, _) => 4,
+        Phase::Writing(_, _, _, _) => 5,
+        Phase::Command(_, _) => 6,
+        Phase::Dead => 7,
+    }
+}
+
+// Byte 34.
+fn count_of(phase: Phase) -> u8
+    ensures { λ r. ⌜ r ≡ unfinished phase ⌝ }
+{
+    match phase {
+        Phase::Idle => 0,
+        Phase::Ident(count, _) => count,
+        Phase::ReadTo(count, _) => count,
+        Phase::WriteTo(count, _) => count,
+        Phase::Reading(_, _) => 0,
+        Phase::Writing(count, _, _, _) => count,
+        Phase::Command(count, _) => count,
+        Phase::Dead => 0,
+    }
+}
+
+// Bytes 35 and 36.
+fn value_of(phase: Phase) -> u16
+    ensures { λ r. ⌜ r ≡ valueOf phase ⌝ }
+{
+    match phase {
+        Phase::Idle => 0,
+        Phase::Ident(_, value) => value,
+        Phase::ReadTo(_, value) => value,
+        Phase::WriteTo(_, value) => value,
+        Phase::Reading(_, _) => 0,
+        Phase::Writing(_, value, _, _) => value,
+        Phase::Command(_, value) => value,
+        Phase::Dead => 0,
+    }
+}
+
+// Byte 38.
+fn position_of(phase: Phase) -> u8
+    ensures { λ r. ⌜ r ≡ positionOf phase ⌝ }
+{
+    match phase {
+        Phase::Idle => 0,
+        Phase::Ident(_, _) => 0,
+        Phase::ReadTo(_, _) => 0,
+        Phase::WriteTo(_, _) => 0,
+        Phase::Reading(_, position) => position,
+        Phase::Writing(_, _, _, position) => position,
+        Phase::Command(_, _) => 0,
+        Phase::Dead => 0,
+    }
+}
+
+// Byte 32.
+fn lines_number(levels: Levels) -> u8
+    ensures { λ r. ⌜ r ≡ linesNumber levels ⌝ }
+{
+    (levels.cs as u8) + 2 * (levels.wr as u8) + 4 * (levels.rd as u8) + 8 * (levels.bit as u8)
+}
+
+// Byte 39.
+fn line_number(line: Line) -> u8
+    ensures { λ r. ⌜ r ≡ lineNumber line ⌝ }
+{
+    match line {
+        Line::Released => 0,
+        Line::Driven(bit) => 1 + (bit as u8),
+    }
+}
+
+// Byte 41.
+fn source_number(source: Source) -> u8
+    ensures { λ r. ⌜ r ≡ sourceNumber source ⌝ }
+{
+    match source {
+        Source::Xtal => 0,
+        Source::Rc => 1,
+        Source::Ext => 2,
+    }
+}
+
+// Byte 43.
+fn bias_number(bias: Bias) -> u8
+    ensures { λ r. ⌜ r ≡ biasNumber bias ⌝ }
+{
+    match bias {
+        Bias::Half => 2,
+        Bias::Third => 3,
+    }
+}
+
+// Byte 46.
+fn pitch_number(pitch: Pitch) -> u8
+    ensures { λ r. ⌜ r ≡ pitchNumber pitch ⌝ }
+{
+    match pitch {
+        Pitch::FourK => 4,
+        Pitch::TwoK => 2,
+    }
+}
+
+// Byte 50.
+fn irq_source_number(source: IrqSource) -> u8
+    ensures { λ r. ⌜ r ≡ irqSourceNumber source ⌝ }
+{
+    match source {
+        IrqSource::Neither => 0,
+        IrqSource::TimeBase => 1,
+        IrqSource::Flag => 2,
+    }
+}
+
+// All bytes after the memory.
+fn tail_of(chip: Chip) -> [u8; 32]
+    ensures { λ r. ⌜ r ≡ tailOf chip ⌝ }
+{
+    let port = chip.port;
+    let levels = port.levels;
+    let phase = port.phase;
+    let line = port.line;
+    let settings = chip.settings;
+    let system = settings.system;
+    let source = system.source;
+    let lcd = settings.lcd;
+    let bias = lcd.bias;
+    let commons = lcd.commons;
+    let tone = settings.tone;
+    let pitch = tone.pitch;
+    let irq = settings.irq;
+    let irq_source = irq.source;
+    let value = value_of(phase);
+    [
+        lines_number(levels),
+        phase_number(phase),
+        count_of(phase),
+        (value % 256) as u8,
+        (value / 256) as u8,
+        phase.address(),
+        position_of(phase),
+        line_number(line),
+        system.on as u8,
+        source_number(source),
+        lcd.on as u8,
+        bias_number(bias),
+        commons.number(),
+        tone.on as u8,
+        pitch_number(pitch),
+        irq.on as u8,
+        settings.base.rate,
+        settings.base.on as u8,
+        irq_source_number(irq_source),
+        settings.counters.timer.watchdog.flag as u8,
+        settings.counters.prescaler.count,
+        settings.counters.toner.count,
+        settings.counters.timer.divider.count,
+        settings.counters.timer.base.count,
+        settings.counters.timer.watchdog.count,
+        settings.test as u8,
+        0,
+        0,
+        0,
+        0,
+        0,
+        0,
+    ]
+}
+
+// 32 bytes over a buffer from a place on. That they are 32 is said for the caller's proof.
+fn put_32(block: [u8; 32], at: usize, out: &mut [u8])
+    requires { ⌜ at + 32 ≤ length (now out) ⌝ }
+    ensures { λ _. ⌜ (length block ≡ 32) × (now (out .exit) ≡ over (now (out .entry)) at block) ⌝ }
+{
+    let mut i: usize = 0;
+    while i < 32 {
+        out[at + i] = block[i];
+        i += 1;
+    }
+}
+
+// The chip's 64 bytes over the start of a buffer.
+pub fn write(chip: Chip, out: &mut [u8]) -> Written
+    ensures { λ r. ⌜ (r ≡ writtenAs (now (out .entry))) × (now (out .exit) ≡ writtenOver chip (now (out .entry))) ⌝ }
+{
+    if out.len() < 64 {
+        return Written::Refused(Refusal::OutputShort);
+    }
+    let port = chip.port;
+    let memory = port.memory;
+    let tail = tail_of(chip);
+    put_32(memory, 0, out);
+    put_32(tail, 32, out);
+    Written::Bytes(64)
+}

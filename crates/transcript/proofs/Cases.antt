@@ -1,0 +1,39 @@
+-- 01 "The listing": its two inputs, an empty one and one that stops, computed from the definition. Assumes nothing.
+use mathlib.Core.Path.{_≡_, refl}
+use mathlib.Core.List.{List, [], _∷_}
+use Prim.Native.Nat.{ℕ}
+use Rattle.frames.specs.Frames.{identified, identTaken, writeToTaken, nibbleTaken, taken, closed, frame}
+use Rattle.chip.specs.Chip.{memoryAfter, settingsAfter, framedBy, moved, stepped}
+use Rattle.transcript.specs.Listing.{begun, classOf, digits, decimal, field, line, answerLine, badLine, endLine}
+use Rattle.transcript.specs.Listing.{listFrom, listing}
+
+-- `fece46ce46464646cecece46ce46f` writes 5 at address 3
+abbrev writes-5 : List ℕ
+writes-5 =
+    102 ∷ 101 ∷ 99 ∷ 101 ∷ 52 ∷ 54 ∷ 99 ∷ 101 ∷ 52 ∷ 54 ∷ 52 ∷ 54 ∷ 52 ∷ 54 ∷ 52 ∷ 54 ∷ 99 ∷ 101 ∷ 99 ∷ 101 ∷ 99 ∷
+    101 ∷ 52 ∷ 54 ∷ 99 ∷ 101 ∷ 52 ∷ 54 ∷ 102 ∷ []
+
+abbrev writes-5-listed : List ℕ
+writes-5-listed =
+    50 ∷ 32 ∷ 49 ∷ 32 ∷ 48 ∷ 32 ∷ 48 ∷ 10 ∷ 50 ∷ 56 ∷ 32 ∷ 53 ∷ 32 ∷ 51 ∷ 32 ∷ 53 ∷ 10 ∷ 50 ∷ 57 ∷ 32 ∷ 50 ∷ 32 ∷
+    48 ∷ 32 ∷ 48 ∷ 10 ∷ 101 ∷ 110 ∷ 100 ∷ 32 ∷ 50 ∷ 57 ∷ 32 ∷ 48 ∷ 10 ∷ []
+
+-- `fece46ce46464646cececece46ce46f` has bits too many: a nibble is stored at address 3, and the frame closes with 3
+abbrev too-many-bits : List ℕ
+too-many-bits =
+    102 ∷ 101 ∷ 99 ∷ 101 ∷ 52 ∷ 54 ∷ 99 ∷ 101 ∷ 52 ∷ 54 ∷ 52 ∷ 54 ∷ 52 ∷ 54 ∷ 52 ∷ 54 ∷ 99 ∷ 101 ∷ 99 ∷ 101 ∷ 99 ∷
+    101 ∷ 99 ∷ 101 ∷ 52 ∷ 54 ∷ 99 ∷ 101 ∷ 52 ∷ 54 ∷ 102 ∷ []
+
+abbrev too-many-bits-listed : List ℕ
+too-many-bits-listed =
+    50 ∷ 32 ∷ 49 ∷ 32 ∷ 48 ∷ 32 ∷ 48 ∷ 10 ∷ 50 ∷ 56 ∷ 32 ∷ 53 ∷ 32 ∷ 51 ∷ 32 ∷ 49 ∷ 49 ∷ 10 ∷ 51 ∷ 49 ∷ 32 ∷ 51 ∷
+    32 ∷ 48 ∷ 32 ∷ 48 ∷ 10 ∷ 101 ∷ 110 ∷ 100 ∷ 32 ∷ 51 ∷ 49 ∷ 32 ∷ 48 ∷ 10 ∷ []
+
+-- nothing at all is `end 0 0`, and `t t`, a tab and `t` is `bad 3`
+pub listings-computed :
+    (listing writes-5 ≡ writes-5-listed)
+    × (listing too-many-bits ≡ too-many-bits-listed)
+    × (listing [] ≡ 101 ∷ 110 ∷ 100 ∷ 32 ∷ 48 ∷ 32 ∷ 48 ∷ 10 ∷ [])
+    × (listing (116 ∷ 32 ∷ 116 ∷ 9 ∷ 116 ∷ []) ≡ 98 ∷ 97 ∷ 100 ∷ 32 ∷ 51 ∷ 10 ∷ [])
+unfolding begun classOf digits decimal field line answerLine badLine endLine listFrom listing stepped moved framedBy memoryAfter settingsAfter frame taken closed identified identTaken writeToTaken nibbleTaken
+listings-computed = (refl, refl, refl, refl)

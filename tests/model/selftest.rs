@@ -1,0 +1,665 @@
+// Runs the paper's own examples and cases on the model.
+// build: rustc -O selftest.rs
+// run:   ./selftest
+
+mod model;
+
+use model::{commands, decode, defined, listing, power_on, read, write, Model};
+
+/// Counts the checks and those that went wrong.
+struct Tally {
+    checks: u64,
+    wrong: u64,
+}
+
+impl Tally {
+    // Checks that two values are equal.
+    fn same<T: PartialEq + std::fmt::Debug>(&mut self, what: &str, expected: T, got: T) {
+        self.checks += 1;
+        if expected != got {
+            self.wrong += 1;
+            println!("{}: expected {:?}, got {:?}", what, expected, got);
+        }
+    }
+}
+
+/// A xorshift generator.
+struct Dice(u64);
+
+impl Dice {
+    // The next number.
+    fn roll(&mut self) -> u64 {
+        self.0 ^= self.0 << 13;
+        self.0 ^= self.0 >> 7;
+        self.0 ^= self.0 << 17;
+        self.0.wrapping_mul(0x2545_F491_4F6C_DD1D) >> 16
+    }
+
+    // A number below a bound.
+    fn below(&mut self, bound: u64) -> u64 {
+        self.roll() % bound
+    }
+}
+
+// The chip at power-on with zero memory.
+fn fresh() -> Model {
+    power_on(&[0; 32]).expect("32 zeros are a memory")
+}
+
+// A chip that has obeyed commands.
+fn commanded(codes: &[u8]) -> Model {
+    let mut chip = fresh();
+    feed(&mut chip, &commands(codes, 1000).expect("defined commands"));
+    chip
+}
+
+// Feeds samples and gives the answers.
+fn feed(chip: &mut Model, samples: &[u8]) -> Vec<(u8, u8, u8)> {
+    samples
+        .iter()
+        .map(|&sample| chip.sample(sample).expect("a sample"))
+        .collect()
+}
+
+// A record with some of its bytes set.
+fn with_bytes(mut record: [u8; 64], bytes: &[(usize, u8)]) -> [u8; 64] {
+    for &(index, byte) in bytes {
+        record[index] = byte;
+    }
+    record
+}
+
+// Cases (a) and (b), and what samples above 15 leave.
+fn opening_cases(tally: &mut Tally) {
+    let mut chip = fresh();
+    tally.same("(a) 15 at power-on", Ok((0, 0, 0)), chip.sample(15));
+    tally.same("(a) then 14", Ok((1, 0, 0)), chip.sample(14));
+    let before = chip.record();
+    for sample in 16..=255 {
+        tally.same("(b) above 15", Err(20), chip.sample(sample));
+        tally.same("(b) nothing changes", before.to_vec(), chip.record().to_vec());
+    }
+}
+
+// Cases (c), (d), (e) and the lengths of all streams.
+fn stream_cases(tally: &mut Tally) {
+    tally.same("(c) N=1", 29, write(0, &[7], 1000).map_or(0, |s| s.len()));
+    tally.same("(c) N=32", 277, write(0, &[7; 32], 1000).map_or(0, |s| s.len()));
+    tally.same("(d) 31, 1", 29, write(31, &[7], 1000).map_or(0, |s| s.len()));
+    tally.same("(d) 31, 2", Err((22, 0)), write(31, &[7, 7], 1000));
+    tally.same("(d) read 31, 1", 29, read(31, 1, 1000).map_or(0, |s| s.len()));
+    tally.same("(d) read 31, 2", Err((22, 0)), read(31, 2, 1000));
+    tally.same("(e) K=1", 27, commands(&[1], 1000).map_or(0, |s| s.len()));
+    for count in 1..=32 {
+        let needed = 21 + 8 * count;
+        tally.same(
+            "write length",
+            Ok(needed),
+            write(0, &vec![3; count], needed).map(|s| s.len()),
+        );
+        tally.same("write 25", Err((25, 0)), write(0, &vec![3; count], needed - 1));
+        tally.same(
+            "read length",
+            Ok(needed),
+            read(0, count as u64, needed).map(|s| s.len()),
+        );
+        tally.same("read 25", Err((25, 0)), read(0, count as u64, needed - 1));
+        let needed = 9 + 18 * count;
+        tally.same(
+            "command length",
+            Ok(needed),
+            commands(&vec![3; count], needed).map(|s| s.len()),
+        );
+        tally.same("command 25", Err((25, 0)), commands(&vec![3; count], needed - 1));
+    }
+    let five = [
+        15, 14, 12, 14, 4, 6, 12, 14, 4, 6, 4, 6, 4, 6, 4, 6, 12, 14, 12, 14, 12, 14, 4, 6, 12, 14, 4, 6, 15,
+    ];
+    tally.same("5 at address 3", Ok(five.to_vec()), write(3, &[5], 29));
+}
+
+// Refusals of the driver, in their order.
+fn refusal_cases(tally: &mut Tally) {
+    tally.same("21 before 22", Err((21, 0)), write(99, &[], 0));
+    tally.same("22 before 23", Err((22, 0)), write(32, &[16], 0));
+    tally.same("23 before 25", Err((23, 1)), write(0, &[15, 16, 17], 0));
+    tally.same("25", Err((25, 0)), write(0, &[15], 28));
+    tally.same("read 21", Err((21, 0)), read(u64::MAX, 0, 0));
+    tally.same("read 22", Err((22, 0)), read(u64::MAX, 1, 0));
+    tally.same("read 22, huge count", Err((22, 0)), read(1, u64::MAX, 0));
+    tally.same("commands 21", Err((21, 0)), commands(&[], 0));
+    tally.same("commands 22", Err((22, 0)), commands(&[0x2C; 33], 0));
+    tally.same("commands 24", Err((24, 2)), commands(&[0, 1, 0x2C, 0x2C], 0));
+    tally.same("decode 26, none", Err((26, 0)), decode(&[], 0));
+    tally.same("decode 26, three", Err((26, 0)), decode(&[2, 2, 2], 0));
+    tally.same("decode 26, 132", Err((26, 0)), decode(&[2; 132], 0));
+    tally.same("decode 27", Err((27, 2)), decode(&[0, 1, 2, 3], 0));
+    tally.same("decode 25", Err((25, 0)), decode(&[0, 1, 1, 1], 0));
+    tally.same("power-on 29", Some((29, 0)), power_on(&[16; 31]).err());
+    tally.same("power-on 29", Some((29, 0)), power_on(&[16; 33]).err());
+    let mut memory = [15; 32];
+    memory[30] = 16;
+    memory[31] = 255;
+    tally.same("power-on 23", Some((23, 30)), power_on(&memory).err());
+}
+
+// Case (f), the defined bytes and the 512 codes.
+fn command_cases(tally: &mut Tally) {
+    tally.same("(f) 2B commons", 4, commanded(&[0x2B]).record()[44]);
+    tally.same("(f) 2B bias", 3, commanded(&[0x2B]).record()[43]);
+    tally.same("(f) 2C", false, defined(0x2C));
+    let undefined = (0..=255).filter(|&code| !defined(code)).count();
+    tally.same("undefined bytes", 88, undefined);
+    let mut passed_over = 0;
+    for code in 0..512u16 {
+        passed_over += nine_bits(tally, code);
+    }
+    tally.same("undefined codes", 176, passed_over);
+    for code in 0..=255u8 {
+        tally.same("defined as tabled", tabled(code), defined(code));
+    }
+}
+
+// Sends a nine-bit code; 1 if it was passed over.
+fn nine_bits(tally: &mut Tally, code: u16) -> u32 {
+    let mut chip = fresh();
+    feed(&mut chip, &[14, 12, 14, 4, 6, 4, 6]);
+    let before = chip.record();
+    let mut answer = (0, 0, 0);
+    for place in (0..9).rev() {
+        let bit = (code >> place & 1) as u8;
+        answer = feed(&mut chip, &[4 + 8 * bit, 6 + 8 * bit])[1];
+        tally.same("code bit", place > 0, answer.0 == 4);
+    }
+    tally.same("code answered", (code >> 1) as u8, answer.1);
+    if answer.0 == 7 {
+        tally.same("passed over", before[40..].to_vec(), chip.record()[40..].to_vec());
+    }
+    tally.same("6 or 7", true, answer.0 == 6 || answer.0 == 7);
+    (answer.0 == 7) as u32
+}
+
+// The defined codes, as the paper's table lists them.
+fn tabled(code: u8) -> bool {
+    match code {
+        0x00..=0x09 | 0x0C..=0x0F | 0x14..=0x1F | 0x20..=0x2B => true,
+        0x40..=0x7F | 0x80..=0x9F | 0xA0..=0xBF | 0xE0 | 0xE3 => true,
+        _ => false,
+    }
+}
+
+// Case (g).
+fn clear_cases(tally: &mut Tally) {
+    let base = with_bytes(fresh().record(), &[(51, 1), (54, 9), (55, 200), (56, 2)]);
+    for &(code, w, flag) in [(0x0C, 2, 1), (0x0D, 2, 1), (0x0E, 0, 0), (0x0F, 0, 0)].iter() {
+        let mut chip = Model::from_record(&base).expect("a valid record");
+        feed(&mut chip, &commands(&[code], 27).expect("a clear command"));
+        let record = chip.record();
+        tally.same("(g) d", 0, record[54]);
+        tally.same("(g) b", 0, record[55]);
+        tally.same("(g) w", w, record[56]);
+        tally.same("(g) flag", flag, record[51]);
+    }
+}
+
+// Cases (h), (i) and (j).
+fn tick_cases(tally: &mut Tally) {
+    // (h) SYS EN, XTAL, F128, CLR WDT, WDT EN
+    let flag = commanded(&[0x01, 0x14, 0xA7, 0x0E, 0x07]);
+    tally.same("(h) 1,023", 0, ticked(&flag, 1023).record()[51]);
+    tally.same("(h) 1,024", 1, ticked(&flag, 1024).record()[51]);
+    // (i) SYS EN, XTAL, F128, CLR TIMER, TIMER EN, IRQ EN
+    let timer = commanded(&[0x01, 0x14, 0xA7, 0x0C, 0x06, 0x88]);
+    tally.same("(i) 127", 0, ticked(&timer, 127).pins().0);
+    tally.same("(i) 128", 1, ticked(&timer, 128).pins().0);
+    // (j) the same with RC
+    let slow = commanded(&[0x01, 0x18, 0xA7, 0x0C, 0x06, 0x88]);
+    tally.same("(j) 1,023", 0, ticked(&slow, 1023).pins().0);
+    tally.same("(j) 1,024", 1, ticked(&slow, 1024).pins().0);
+}
+
+// A chip after so many single ticks.
+fn ticked(chip: &Model, ticks: u32) -> Model {
+    let mut chip = chip.clone();
+    for _ in 0..ticks {
+        chip.tick();
+    }
+    chip
+}
+
+// Case (k) and every noted nibble.
+fn decode_cases(tally: &mut Tally) {
+    tally.same("(k)", Ok(vec![5]), decode(&[1, 0, 1, 0], 1));
+    for nibble in 0..16u8 {
+        let noted = [nibble & 1, nibble >> 1 & 1, nibble >> 2 & 1, nibble >> 3];
+        tally.same("noted", Ok(vec![nibble]), decode(&noted, 1));
+    }
+}
+
+// The listing's examples and its other ends.
+fn listing_cases(tally: &mut Tally) {
+    let many = listing(b"fece46ce46464646cececece46ce46f");
+    tally.same(
+        "bits too many",
+        "2 1 0 0\n28 5 3 11\n31 3 0 0\nend 31 0\n",
+        &text(&many),
+    );
+    let exact = listing(b"fece46ce46464646cecece46ce46f");
+    tally.same("5 at 3", "2 1 0 0\n28 5 3 5\n29 2 0 0\nend 29 0\n", &text(&exact));
+    tally.same("empty", "end 0 0\n", &text(&listing(b"")));
+    tally.same("ticks", "2 1 0 0\nend 2 3\n", &text(&listing(b"f t\nett")));
+    tally.same("bad", "2 1 0 0\nbad 2\n", &text(&listing(b"feFe")));
+    tally.same("bad tab", "bad 0\n", &text(&listing(b"\tf")));
+    tally.same("65,536", "end 65536 0\n", &text(&listing(&[b'f'; 65_536])));
+    tally.same("65,537", "long\n", &text(&listing(&[b'?'; 65_537])));
+}
+
+// A listing as text.
+fn text(bytes: &[u8]) -> String {
+    String::from_utf8_lossy(bytes).into_owned()
+}
+
+// A write stores nibble i at sample 20 + 8i, and a read gives it back.
+fn stored_cases(tally: &mut Tally) {
+    for first in 0..32usize {
+        for count in 1..=32 - first {
+            let nibbles: Vec<u8> = (0..count).map(|i| ((i * 7 + first * 3 + 1) % 16) as u8).collect();
+            let mut chip = fresh();
+            let answers = feed(&mut chip, &write(first as u64, &nibbles, 300).expect("a write"));
+            for (place, answer) in answers.iter().enumerate().filter(|pair| pair.1 .0 == 5) {
+                let index = (place + 1 - 20) / 8 - 1;
+                tally.same("stored", (5, (first + index) as u8, nibbles[index]), *answer);
+                tally.same("stored at", 28 + 8 * index, place + 1);
+            }
+            tally.same(
+                "stores",
+                count,
+                answers.iter().filter(|answer| answer.0 == 5).count(),
+            );
+            tally.same("read back", nibbles, read_back(&mut chip, first, count));
+        }
+    }
+}
+
+// Reads nibbles back by noting DATA.
+fn read_back(chip: &mut Model, first: usize, count: usize) -> Vec<u8> {
+    let mut noted = Vec::new();
+    let mut before = 15;
+    for sample in read(first as u64, count as u64, 300).expect("a read") {
+        feed(chip, &[sample]);
+        if sample == 14 && before == 10 {
+            noted.push((chip.pins().0 / 8 - 1) as u8);
+        }
+        before = sample;
+    }
+    decode(&noted, 32).expect("noted bits")
+}
+
+// A random valid record.
+fn random_record(dice: &mut Dice) -> [u8; 64] {
+    let tops = [
+        (41, 3),
+        (42, 2),
+        (40, 2),
+        (45, 2),
+        (47, 2),
+        (48, 8),
+        (49, 2),
+        (50, 3),
+        (51, 2),
+        (52, 8),
+        (53, 16),
+        (54, 128),
+        (55, 256),
+        (56, 4),
+        (57, 2),
+    ];
+    let mut record = [0; 64];
+    for byte in record[..32].iter_mut() {
+        *byte = dice.below(16) as u8;
+    }
+    let phase = dice.below(8) as usize;
+    record[32] = (dice.below(8) * 2) as u8 + (phase == 0) as u8;
+    record[33] = phase as u8;
+    record[34] = dice.below([0, 2, 5, 5, 0, 3, 8, 0][phase] + 1) as u8;
+    record[35] = dice.below(1 << record[34]) as u8;
+    if phase == 4 || phase == 5 {
+        record[37] = dice.below(32) as u8;
+        record[38] = dice.below(4) as u8;
+        record[39] = dice.below(3) as u8;
+    }
+    for &(index, top) in tops.iter() {
+        record[index] = dice.below(top) as u8;
+    }
+    record[43] = 2 + dice.below(2) as u8;
+    record[44] = 2 + dice.below(3) as u8;
+    record[46] = 2 + 2 * dice.below(2) as u8;
+    record
+}
+
+// Records read and written again are the same bytes, and a live history goes on
+// as the one made up from its record does.
+fn record_cases(tally: &mut Tally) {
+    let mut dice = Dice(1621);
+    for _ in 0..20_000 {
+        let record = random_record(&mut dice);
+        let mut chip = Model::from_record(&record).expect("a valid record");
+        tally.same("read and written", record.to_vec(), chip.record().to_vec());
+        for _ in 0..20 {
+            let sample = (dice.below(16) & if dice.below(16) == 0 { 15 } else { 14 }) as u8;
+            let mut other = Model::from_record(&chip.record()).expect("a valid record");
+            tally.same("same answer", chip.sample(sample), other.sample(sample));
+            tally.same("same record", chip.record().to_vec(), other.record().to_vec());
+            tally.same("same pins", chip.pins(), other.pins());
+        }
+    }
+    for length in (0..130).filter(|&length| length != 64) {
+        tally.same("length", true, Model::from_record(&vec![0; length]).is_none());
+    }
+}
+
+// One tick as the paper's sentences say it, on the bytes of a record.
+fn tick_in_words(record: &mut [u8; 64]) {
+    let external = record[41] == 2;
+    if record[40] == 0 && !external {
+        return;
+    }
+    if record[41] != 0 {
+        record[52] = (record[52] + 1) % 8;
+        if record[52] != 0 {
+            return;
+        }
+    }
+    record[53] = (record[53] + 1) % 16;
+    if record[49] == 0 {
+        return;
+    }
+    record[54] = (record[54] + 1) % 128;
+    if record[54] as u32 % (1 << (7 - record[48])) != 0 {
+        return;
+    }
+    record[55] = record[55].wrapping_add(1);
+    if record[55] != 0 {
+        return;
+    }
+    record[56] = (record[56] + 1) % 4;
+    if record[56] == 0 {
+        record[51] = 1;
+    }
+}
+
+// Advancing is so many ticks as the paper's sentences say them.
+fn advance_cases(tally: &mut Tally) {
+    let mut dice = Dice(32768);
+    for round in 0..600 {
+        let mut record = random_record(&mut dice);
+        let ticks = if round % 3 == 0 {
+            dice.below(65_536)
+        } else {
+            dice.below(2_000)
+        };
+        let mut chip = Model::from_record(&record).expect("a valid record");
+        chip.advance(ticks as u16);
+        for _ in 0..ticks {
+            tick_in_words(&mut record);
+        }
+        tally.same("advanced", record.to_vec(), chip.record().to_vec());
+    }
+}
+
+// The rules of frames that are easily got wrong.
+fn frame_cases(tally: &mut Tally) {
+    let write_head = [14, 12, 14, 4, 6, 12, 14, 4, 6, 4, 6, 4, 6, 4, 6, 4, 6, 4, 6];
+    let mut chip = power_on(&[6; 32]).expect("a memory");
+    feed(&mut chip, &write_head);
+    // Four bits read in a 101 frame cycle and never step the address.
+    for bit in [0, 1, 1, 0, 0].iter() {
+        tally.same(
+            "offered",
+            vec![(8, 0, *bit), (0, 0, 0)],
+            feed(&mut chip, &[10, 14]),
+        );
+    }
+    // A rise in the sample that raises CS does not count.
+    tally.same(
+        "three bits",
+        vec![(4, 0, 0); 3],
+        odd(&feed(&mut chip, &[4, 6, 4, 6, 4, 6])),
+    );
+    tally.same("cut short", vec![(0, 0, 0), (3, 0, 0)], feed(&mut chip, &[4, 7]));
+    tally.same("not stored", 6, chip.record()[0]);
+    // A clash is answered 11 in a dead frame too; other edges there are stray.
+    feed(&mut chip, &[14, 4, 6, 4, 6]);
+    tally.same("unknown ID", (10, 0, 0), feed(&mut chip, &[4, 6])[1]);
+    tally.same("dead clash", (11, 0, 0), feed(&mut chip, &[4, 2])[1]);
+    tally.same(
+        "dead stray",
+        vec![(0, 0, 0), (9, 0, 0), (0, 0, 0), (9, 0, 0)],
+        feed(&mut chip, &[6, 2, 4, 6]),
+    );
+    tally.same("dead close", vec![(2, 0, 0)], feed(&mut chip, &[15]));
+    // Reading goes from 31 to 0, and a stray rise leaves the offered bit.
+    let mut memory = [0; 32];
+    memory[31] = 8;
+    memory[0] = 1;
+    let mut chip = power_on(&memory).expect("a memory");
+    feed(
+        &mut chip,
+        &[
+            14, 12, 14, 12, 14, 4, 6, 12, 14, 12, 14, 12, 14, 12, 14, 12, 14, 12, 14,
+        ],
+    );
+    let offered = even(&feed(&mut chip, &[10, 14, 10, 14, 10, 14, 10, 14, 10, 14]));
+    tally.same(
+        "31 to 0",
+        vec![(8, 31, 0), (8, 31, 0), (8, 31, 0), (8, 31, 1), (8, 0, 1)],
+        offered,
+    );
+    tally.same("stray rise", vec![(0, 0, 0), (9, 0, 0)], feed(&mut chip, &[4, 6]));
+    tally.same("still offered", 2, chip.pins().0 / 8);
+    tally.same("closed", vec![(2, 0, 0)], feed(&mut chip, &[15]));
+    tally.same("released", 0, chip.pins().0 / 8);
+}
+
+// The answers at odd places.
+fn odd(answers: &[(u8, u8, u8)]) -> Vec<(u8, u8, u8)> {
+    answers.iter().skip(1).step_by(2).copied().collect()
+}
+
+// The answers at even places.
+fn even(answers: &[(u8, u8, u8)]) -> Vec<(u8, u8, u8)> {
+    answers.iter().step_by(2).copied().collect()
+}
+
+// The pins' numbers and cells.
+fn pin_cases(tally: &mut Tally) {
+    let memory: Vec<u8> = (0..32).map(|s| s % 16).collect();
+    let base = power_on(&memory).expect("a memory").record();
+    let shown = |bytes: &[(usize, u8)]| {
+        Model::from_record(&with_bytes(base, bytes))
+            .expect("valid")
+            .pins()
+    };
+    tally.same("off", (0, [0; 32]), shown(&[(45, 1)]));
+    tally.same("tone low", 4, shown(&[(40, 1), (45, 1)]).0);
+    tally.same("4k at 3", 4, shown(&[(40, 1), (45, 1), (53, 3)]).0);
+    tally.same("4k at 4", 2, shown(&[(40, 1), (45, 1), (53, 4)]).0);
+    tally.same("4k at 8", 4, shown(&[(40, 1), (45, 1), (53, 8)]).0);
+    tally.same("2k at 7", 4, shown(&[(41, 2), (45, 1), (46, 2), (53, 7)]).0);
+    tally.same("2k at 8", 2, shown(&[(41, 2), (45, 1), (46, 2), (53, 8)]).0);
+    tally.same("flag", 1, shown(&[(47, 1), (50, 2), (51, 1)]).0);
+    tally.same("flag, output off", 0, shown(&[(50, 2), (51, 1)]).0);
+    tally.same("b 127", 0, shown(&[(47, 1), (50, 1), (55, 127), (51, 1)]).0);
+    tally.same("b 128", 1, shown(&[(47, 1), (50, 1), (55, 128)]).0);
+    for commons in 2..=4u8 {
+        let cells = shown(&[(41, 2), (42, 1), (44, commons)]).1;
+        let expected: Vec<u8> = memory
+            .iter()
+            .map(|nibble| nibble & ((1 << commons) - 1))
+            .collect();
+        tally.same("cells", expected, cells.to_vec());
+    }
+}
+
+// The whole effect of each command: what a chip holds before, the code, and the
+// bytes that differ afterwards.
+fn effect_cases(tally: &mut Tally) {
+    let all_on: &[(usize, u8)] = &[(40, 1), (42, 1), (45, 1), (47, 1), (49, 1), (51, 1), (57, 1)];
+    let counted: &[(usize, u8)] = &[(52, 5), (53, 9), (54, 77), (55, 201), (56, 3)];
+    let cases: &[(&[(usize, u8)], u8, &[(usize, u8)])] = &[
+        (all_on, 0x00, &[(40, 0), (42, 0)]),
+        (&[(41, 0), (40, 1), (42, 1)], 0x00, &[(40, 0), (42, 0)]),
+        (&[(41, 2), (40, 1), (42, 1)], 0x00, &[]),
+        (&[], 0x01, &[(40, 1)]),
+        (all_on, 0x02, &[(42, 0)]),
+        (&[], 0x03, &[(42, 1)]),
+        (&[(49, 1), (50, 1)], 0x04, &[(50, 0)]),
+        (&[(49, 1), (50, 2)], 0x04, &[]),
+        (&[(49, 1), (50, 1)], 0x05, &[(49, 0)]),
+        (&[(49, 1), (50, 2)], 0x05, &[(49, 0), (50, 0)]),
+        (&[(50, 2)], 0x06, &[(49, 1), (50, 1)]),
+        (&[(50, 1)], 0x07, &[(49, 1), (50, 2)]),
+        (all_on, 0x08, &[(45, 0)]),
+        (&[], 0x09, &[(45, 1)]),
+        (counted, 0x0C, &[(54, 0), (55, 0)]),
+        (counted, 0x0D, &[(54, 0), (55, 0)]),
+        (&[(51, 1), (54, 77), (56, 3)], 0x0C, &[(54, 0)]),
+        (counted, 0x0E, &[(54, 0), (55, 0), (56, 0)]),
+        (&[(51, 1)], 0x0F, &[(51, 0)]),
+        (counted, 0x14, &[(41, 0)]),
+        (&[(41, 0), (52, 5)], 0x1B, &[(41, 1)]),
+        (counted, 0x1F, &[(41, 2)]),
+        (&[(43, 3), (44, 4)], 0x20, &[(43, 2), (44, 2)]),
+        (&[], 0x21, &[(43, 3)]),
+        (&[], 0x26, &[(44, 3)]),
+        (&[], 0x29, &[(43, 3), (44, 4)]),
+        (&[(46, 2)], 0x5F, &[(46, 4)]),
+        (&[], 0x60, &[(46, 2)]),
+        (all_on, 0x80, &[(47, 0)]),
+        (all_on, 0x97, &[(47, 0)]),
+        (&[], 0x88, &[(47, 1)]),
+        (&[], 0x9F, &[(47, 1)]),
+        (counted, 0xA0, &[(48, 0)]),
+        (counted, 0xBB, &[(48, 3)]),
+        (&[(48, 0)], 0xBF, &[(48, 7)]),
+        (&[], 0xE0, &[(57, 1)]),
+        (all_on, 0xE3, &[(57, 0)]),
+    ];
+    for &(before, code, changed) in cases {
+        let base = with_bytes(fresh().record(), before);
+        let mut chip = Model::from_record(&base).expect("a valid record");
+        feed(&mut chip, &commands(&[code], 27).expect("a defined command"));
+        let due = with_bytes(base, changed).to_vec();
+        tally.same(&format!("effect of {:02x}", code), due, chip.record().to_vec());
+    }
+}
+
+// The range of each byte, as the paper lists them.
+fn range_of(index: usize) -> std::ops::RangeInclusive<u8> {
+    match index {
+        0..=32 => 0..=15,
+        37 => 0..=31,
+        38 | 56 => 0..=3,
+        39 | 41 | 50 => 0..=2,
+        43 => 2..=3,
+        44 => 2..=4,
+        46 => 2..=4,
+        48 | 52 => 0..=7,
+        53 => 0..=15,
+        54 => 0..=127,
+        55 => 0..=255,
+        40 | 42 | 45 | 47 | 49 | 51 | 57 => 0..=1,
+        _ => 0..=0,
+    }
+}
+
+// Which records are valid: each byte alone, then the bytes that depend on others.
+fn validity_cases(tally: &mut Tally) {
+    let writing = with_bytes(fresh().record(), &[(32, 14), (33, 5)]);
+    for index in (0..64).filter(|&index| index != 33 && index != 34) {
+        for byte in 0..=255 {
+            let odd_lines = index == 32 && byte % 2 == 1;
+            let no_tone = index == 46 && byte == 3;
+            let due = range_of(index).contains(&byte) && !odd_lines && !no_tone;
+            let got = model::valid(&with_bytes(writing, &[(index, byte)]));
+            tally.same(&format!("byte {} as {}", index, byte), due, got);
+        }
+    }
+    for phase in 0..=255u8 {
+        let most = *[0, 2, 5, 5, 0, 3, 8, 0].get(phase as usize).unwrap_or(&0);
+        for count in 0..=255u8 {
+            for lines in 14..16 {
+                let record = with_bytes(writing, &[(32, lines), (33, phase), (34, count)]);
+                let due = phase < 8 && count <= most && (phase == 0) == (lines == 15);
+                tally.same("phase, count and CS", due, model::valid(&record));
+            }
+        }
+    }
+    for phase in 1..8u8 {
+        for index in 37..40 {
+            let record = with_bytes(writing, &[(33, phase), (index, 1)]);
+            tally.same("bytes 37 to 39", phase == 4 || phase == 5, model::valid(&record));
+        }
+    }
+    for count in 0..=8u8 {
+        for value in 0..1024u16 {
+            let bytes = [(33, 6), (34, count), (35, value as u8), (36, (value >> 8) as u8)];
+            let got = model::valid(&with_bytes(writing, &bytes));
+            tally.same("value", value < 1 << count, got);
+        }
+    }
+}
+
+// In a 101 frame a whole nibble sets the reading position to D0; single bits
+// leave it, and any bit taken releases DATA.
+fn position_cases(tally: &mut Tally) {
+    let mut chip = power_on(&[6; 32]).expect("a memory");
+    feed(&mut chip, &write(31, &[0], 29).expect("a write")[..20]);
+    tally.same(
+        "D0, D1",
+        vec![(8, 31, 0), (8, 31, 1)],
+        even(&feed(&mut chip, &[10, 14, 10, 14])),
+    );
+    tally.same("high", 2, chip.pins().0 / 8);
+    feed(&mut chip, &[12, 14]);
+    tally.same("bit taken", 0, chip.pins().0 / 8);
+    tally.same("D2", vec![(8, 31, 1), (0, 0, 0)], feed(&mut chip, &[10, 14]));
+    feed(&mut chip, &[4, 6, 4, 6]);
+    tally.same(
+        "9 stored",
+        vec![(0, 0, 0), (5, 31, 9)],
+        feed(&mut chip, &[12, 14]),
+    );
+    tally.same("D0 of 0", vec![(8, 0, 0), (0, 0, 0)], feed(&mut chip, &[10, 14]));
+    tally.same("D1 of 0", vec![(8, 0, 1), (0, 0, 0)], feed(&mut chip, &[10, 14]));
+}
+
+// Runs every group.
+fn main() {
+    let mut tally = Tally { checks: 0, wrong: 0 };
+    let groups = [
+        opening_cases,
+        stream_cases,
+        refusal_cases,
+        command_cases,
+        clear_cases,
+        tick_cases,
+        decode_cases,
+        listing_cases,
+        stored_cases,
+        record_cases,
+        advance_cases,
+        frame_cases,
+        pin_cases,
+        effect_cases,
+        validity_cases,
+        position_cases,
+    ];
+    for group in groups.iter() {
+        group(&mut tally);
+    }
+    println!("{} checks, {} wrong", tally.checks, tally.wrong);
+    if tally.wrong > 0 {
+        std::process::exit(1);
+    }
+}
