@@ -19,9 +19,11 @@ use Rattle.chip.specs.declared.Port.{Port}
 use Rattle.chip.specs.declared.Chip.{Chip}
 use Rattle.chip.specs.Chip.{moved}
 use Rattle.chip.specs.Valid.{Valid}
+use Rattle.state.specs.Record.{chipOf}
+use Rattle.state.proofs.ChipLaws.{valid-chip}
 use Rattle.driver.specs.Streams.{writeStream, readStream, decoded}
 use Rattle.demands.specs.Events.{Event, after, samples, answers, notes}
-use Rattle.demands.specs.Demand3.{Accepts, completed, Survives, Demand3}
+use Rattle.demands.specs.Demand3.{Accepts, completed, Survives, Demand3, Demand3OfRecords}
 use Rattle.demands.proofs.AcceptedLaws.{Fit, accepted-write}
 use Rattle.demands.proofs.Ports.{Sixteen, runP, trace, high, high-keeps, trace-take, after-port, after-answers}
 use Rattle.demands.proofs.ReadLaws.{notesL, readL, after-notes, read-decodes}
@@ -142,3 +144,7 @@ demand3 c first ns k es valid accepts e =
     mended : (again : List Event) → samples again ≡ writeStream first ns → after (after c es) again .port .memory ≡ sets m first ns
     mended again e₁ =
         write-done (after c es) first ns again fit e₁ ∙ ap (λ (l : List ℕ). sets l first ns) stopped ∙ sets-again x ns m first
+
+-- a valid record says a valid chip
+pub demand3-of-records : Demand3OfRecords
+demand3-of-records bytes first ns k es valid accepts e = demand3 (chipOf bytes) first ns k es (valid-chip bytes valid) accepts e
