@@ -1,0 +1,1611 @@
+// Compares the simulator's and the host's libraries with the model, call by call.
+// build: rustc -O compare.rs -L DIR -l static=simulator -l static=host
+// run:   ./compare [--samples N] [--seed N] [--only CHECK]
+// The first call that differs is printed on one line and ends the run with status 1.
+
+mod model;
+
+use model::Model;
+
+// A buffer lent to a call stands between guard bytes, and every call is judged:
+// the guards stand, what is only read is unchanged, a refusal changes no byte and
+// a success no byte past what it wrote. All unsafe code is in this module.
+mod lent {
+    use super::{hex, wrong};
+
+    mod c {
+        extern "C" {
+            pub fn step(record: *mut u8, len: usize, sample: u8) -> u32;
+            pub fn advance(record: *mut u8, len: usize, n: u16) -> u32;
+            pub fn pins(record: *const u8, len: usize, out: *mut u8, out_len: usize) -> u32;
+            pub fn ht1621_power_on(memory: *const u8, len: usize, record: *mut u8, record_len: usize) -> u32;
+            pub fn ht1621_write(
+                first: usize,
+                nibbles: *const u8,
+                len: usize,
+                out: *mut u8,
+                out_len: usize,
+            ) -> u32;
+            pub fn ht1621_read(first: usize, count: usize, out: *mut u8, out_len: usize) -> u32;
+            pub fn ht1621_commands(codes: *const u8, len: usize, out: *mut u8, out_len: usize) -> u32;
+            pub fn ht1621_decode(noted: *const u8, len: usize, out: *mut u8, out_len: usize) -> u32;
+        }
+    }
+
+    const GUARD: usize = 32;
+
+    /// A lent buffer and the bytes it held before the call.
+    struct Lent {
+        bytes: Vec<u8>,
+        before: Vec<u8>,
+    }
+
+    /// What a call returned, and the bytes lent to it afterwards.
+    pub type Outcome = (u32, Vec<u8>);
+
+    // The bytes that a buffer for output holds before a call: none of them is a
+    // sample, a nibble or a bit.
+    pub fn fill(len: usize) -> Vec<u8> {
+        (0..len).map(|index| 0x80 | (index * 29 + len) as u8).collect()
+    }
+
+    // The guard bytes of one side.
+    fn guard() -> Vec<u8> {
+        (0..GUARD).map(|index| 0x90 ^ (index * 5) as u8).collect()
+    }
+
+    impl Lent {
+        // A buffer that holds these bytes.
+        fn holding(body: &[u8]) -> Lent {
+            let mut bytes = guard();
+            bytes.extend_from_slice(body);
+            bytes.extend_from_slice(&guard());
+            Lent {
+                before: bytes.clone(),
+                bytes,
+            }
+        }
+
+        // A buffer for output.
+        fn for_output(len: usize) -> Lent {
+            Lent::holding(&fill(len))
+        }
+
+        // The length lent.
+        fn len(&self) -> usize {
+            self.bytes.len() - 2 * GUARD
+        }
+
+        // The address lent.
+        fn start(&mut self) -> *mut u8 {
+            self.bytes[GUARD..].as_mut_ptr()
+        }
+
+        // The bytes now.
+        fn body(&self) -> &[u8] {
+            &self.bytes[GUARD..GUARD + self.len()]
+        }
+
+        // Whether both guards stand.
+        fn guards_stand(&self) -> bool {
+            let end = GUARD + self.len();
+            self.bytes[..GUARD] == self.before[..GUARD] && self.bytes[end..] == self.before[end..]
+        }
+
+        // Whether every byte from a place on is as it was.
+        fn unchanged_from(&self, place: usize) -> bool {
+            place <= self.len() && self.bytes[GUARD + place..] == self.before[GUARD + place..]
+        }
+    }
+
+    // Ends the run where a call broke a rule of lent buffers.
+    fn must(holds: bool, rule: &str, result: u32, buffer: &Lent, call: &dyn Fn() -> String) {
+        if !holds {
+            wrong(&format!(
+                "{} returned={} buffer={}: {}",
+                call(),
+                result,
+                hex(&buffer.bytes),
+                rule
+            ));
+        }
+    }
+
+    // Judges a buffer that is only read.
+    fn judge_input(result: u32, input: &Lent, call: &dyn Fn() -> String) {
+        must(
+            input.unchanged_from(0),
+            "a byte only lent for reading changed",
+            result,
+            input,
+            call,
+        );
+        must(input.guards_stand(), "a guard byte changed", result, input, call);
+    }
+
+    // Judges a buffer of which a call has written its first bytes.
+    fn judge_output(result: u32, written: usize, output: &Lent, call: &dyn Fn() -> String) {
+        must(
+            output.guards_stand(),
+            "a guard byte changed",
+            result,
+            output,
+            call,
+        );
+        must(
+            output.unchanged_from(written),
+            "more bytes claimed than lent, or a byte changed past those written",
+            result,
+            output,
+            call,
+        );
+    }
+
+    // The bytes that a call of the host wrote.
+    fn written(result: u32) -> usize {
+        if result >> 31 == 1 {
+            0
+        } else {
+            result as usize
+        }
+    }
+
+    /// The simulator's step on a copy of a record.
+    pub fn step(record: &[u8], sample: u8) -> Outcome {
+        let mut lent = Lent::holding(record);
+        let result = unsafe { c::step(lent.start(), lent.len(), sample) };
+        let changed = if result == 20 || result == 28 {
+            0
+        } else {
+            record.len()
+        };
+        judge_output(result, changed, &lent, &|| {
+            format!("step record={} sample={}", hex(record), sample)
+        });
+        (result, lent.body().to_vec())
+    }
+
+    /// The simulator's advance on a copy of a record.
+    pub fn advance(record: &[u8], ticks: u16) -> Outcome {
+        let mut lent = Lent::holding(record);
+        let result = unsafe { c::advance(lent.start(), lent.len(), ticks) };
+        let changed = if result == 28 { 0 } else { record.len() };
+        judge_output(result, changed, &lent, &|| {
+            format!("advance record={} n={}", hex(record), ticks)
+        });
+        (result, lent.body().to_vec())
+    }
+
+    /// The simulator's pins, with a buffer of a length for the cells.
+    pub fn pins(record: &[u8], out_len: usize) -> Outcome {
+        let mut input = Lent::holding(record);
+        let mut output = Lent::for_output(out_len);
+        let result = unsafe { c::pins(input.start(), input.len(), output.start(), out_len) };
+        let call = || format!("pins record={} out_len={}", hex(record), out_len);
+        judge_input(result, &input, &call);
+        judge_output(
+            result,
+            if result == 25 || result == 28 { 0 } else { 32 },
+            &output,
+            &call,
+        );
+        (result, output.body().to_vec())
+    }
+
+    /// The host's power-on, with a buffer of a length for the record.
+    pub fn power_on(memory: &[u8], record_len: usize) -> Outcome {
+        let mut input = Lent::holding(memory);
+        let mut output = Lent::for_output(record_len);
+        let result = unsafe { c::ht1621_power_on(input.start(), input.len(), output.start(), record_len) };
+        let call = || format!("ht1621_power_on memory={} record_len={}", hex(memory), record_len);
+        judge_input(result, &input, &call);
+        judge_output(result, written(result), &output, &call);
+        (result, output.body().to_vec())
+    }
+
+    /// The host's write, with a buffer of a length for the stream.
+    pub fn write(first: usize, nibbles: &[u8], out_len: usize) -> Outcome {
+        let mut input = Lent::holding(nibbles);
+        let mut output = Lent::for_output(out_len);
+        let result = unsafe { c::ht1621_write(first, input.start(), input.len(), output.start(), out_len) };
+        let call = || {
+            format!(
+                "ht1621_write first={} nibbles={} out_len={}",
+                first,
+                hex(nibbles),
+                out_len
+            )
+        };
+        judge_input(result, &input, &call);
+        judge_output(result, written(result), &output, &call);
+        (result, output.body().to_vec())
+    }
+
+    /// The host's read, with a buffer of a length for the stream.
+    pub fn read(first: usize, count: usize, out_len: usize) -> Outcome {
+        let mut output = Lent::for_output(out_len);
+        let result = unsafe { c::ht1621_read(first, count, output.start(), out_len) };
+        let call = || format!("ht1621_read first={} count={} out_len={}", first, count, out_len);
+        judge_output(result, written(result), &output, &call);
+        (result, output.body().to_vec())
+    }
+
+    /// The host's commands, with a buffer of a length for the stream.
+    pub fn commands(codes: &[u8], out_len: usize) -> Outcome {
+        let mut input = Lent::holding(codes);
+        let mut output = Lent::for_output(out_len);
+        let result = unsafe { c::ht1621_commands(input.start(), input.len(), output.start(), out_len) };
+        let call = || format!("ht1621_commands codes={} out_len={}", hex(codes), out_len);
+        judge_input(result, &input, &call);
+        judge_output(result, written(result), &output, &call);
+        (result, output.body().to_vec())
+    }
+
+    /// The host's decode, with a buffer of a length for the nibbles.
+    pub fn decode(noted: &[u8], out_len: usize) -> Outcome {
+        let mut input = Lent::holding(noted);
+        let mut output = Lent::for_output(out_len);
+        let result = unsafe { c::ht1621_decode(input.start(), input.len(), output.start(), out_len) };
+        let call = || format!("ht1621_decode noted={} out_len={}", hex(noted), out_len);
+        judge_input(result, &input, &call);
+        judge_output(result, written(result), &output, &call);
+        (result, output.body().to_vec())
+    }
+}
+
+use lent::{fill, Outcome};
+
+// Prints a line that tells a wrong call and ends the run.
+fn wrong(line: &str) -> ! {
+    println!("WRONG {}", line);
+    println!("compare: stopped, 1 wrong");
+    std::process::exit(1);
+}
+
+// Bytes in hex; `-` for none.
+fn hex(bytes: &[u8]) -> String {
+    if bytes.is_empty() {
+        return "-".to_string();
+    }
+    bytes.iter().map(|byte| format!("{:02x}", byte)).collect()
+}
+
+/// A xorshift generator.
+struct Dice(u64);
+
+impl Dice {
+    // A generator of a seed; the seed 0 would give only zeros.
+    fn seeded(seed: u64) -> Dice {
+        let mut dice = Dice(seed.wrapping_mul(0x9E37_79B9_7F4A_7C15) | 1);
+        for _ in 0..8 {
+            dice.roll();
+        }
+        dice
+    }
+
+    // The next number.
+    fn roll(&mut self) -> u64 {
+        self.0 ^= self.0 >> 12;
+        self.0 ^= self.0 << 25;
+        self.0 ^= self.0 >> 27;
+        self.0.wrapping_mul(0x2545_F491_4F6C_DD1D) >> 20
+    }
+
+    // A number below a bound.
+    fn below(&mut self, bound: usize) -> usize {
+        (self.roll() % bound as u64) as usize
+    }
+
+    // A byte below a bound of at most 256.
+    fn byte(&mut self, bound: usize) -> u8 {
+        self.below(bound) as u8
+    }
+
+    // Whether one chance in so many came up.
+    fn once_in(&mut self, chances: usize) -> bool {
+        self.below(chances) == 0
+    }
+
+    // One of several values.
+    fn pick<T: Copy>(&mut self, values: &[T]) -> T {
+        values[self.below(values.len())]
+    }
+
+    // Bytes below a bound.
+    fn bytes(&mut self, count: usize, bound: usize) -> Vec<u8> {
+        (0..count).map(|_| self.byte(bound)).collect()
+    }
+}
+
+// What the paper promises of a step.
+fn step_due(record: &[u8], sample: u8) -> Outcome {
+    let Some(mut chip) = Model::from_record(record) else {
+        return (28, record.to_vec());
+    };
+    match chip.sample(sample) {
+        Ok(answer) => (answer_number(answer), chip.record().to_vec()),
+        Err(refusal) => (refusal as u32, record.to_vec()),
+    }
+}
+
+// An answer as step returns it.
+fn answer_number((answer, first, second): (u8, u8, u8)) -> u32 {
+    answer as u32 + 256 * first as u32 + 65_536 * second as u32
+}
+
+// What the paper promises of an advance.
+fn advance_due(record: &[u8], ticks: u16) -> Outcome {
+    let Some(mut chip) = Model::from_record(record) else {
+        return (28, record.to_vec());
+    };
+    chip.advance(ticks);
+    (0, chip.record().to_vec())
+}
+
+// What the paper promises of the pins.
+fn pins_due(record: &[u8], out_len: usize) -> Outcome {
+    let Some(chip) = Model::from_record(record) else {
+        return (28, fill(out_len));
+    };
+    if out_len < 32 {
+        return (25, fill(out_len));
+    }
+    let (sum, cells) = chip.pins();
+    (sum, written_first(&cells, out_len))
+}
+
+// Bytes written at the front of a buffer of a length.
+fn written_first(bytes: &[u8], out_len: usize) -> Vec<u8> {
+    let mut out = fill(out_len);
+    out[..bytes.len()].copy_from_slice(bytes);
+    out
+}
+
+// What the paper promises of a call of the host.
+fn host_due(result: Result<Vec<u8>, (u8, u64)>, out_len: usize) -> Outcome {
+    match result {
+        Ok(bytes) => (bytes.len() as u32, written_first(&bytes, out_len)),
+        Err((refusal, place)) => ((1 << 31) + 256 * place as u32 + refusal as u32, fill(out_len)),
+    }
+}
+
+// What the paper promises of power-on.
+fn power_on_due(memory: &[u8], record_len: usize) -> Outcome {
+    let record = model::power_on(memory).map(|chip| chip.record().to_vec());
+    let fitted = record.and_then(|bytes| if record_len < 64 { Err((25, 0)) } else { Ok(bytes) });
+    host_due(fitted, record_len)
+}
+
+/// Counts comparisons; its methods compare one call each with the model.
+struct Tally {
+    count: u64,
+    dice: Dice,
+}
+
+impl Tally {
+    // Compares an outcome with the one due.
+    fn same(&mut self, due: Outcome, got: Outcome, call: &dyn Fn() -> String) {
+        self.count += 1;
+        if due != got {
+            let (expected, found) = (hex(&due.1), hex(&got.1));
+            wrong(&format!(
+                "{} expected={}:{} got={}:{}",
+                call(),
+                due.0,
+                expected,
+                got.0,
+                found
+            ));
+        }
+    }
+
+    // Compares one number with the one due.
+    fn equal(&mut self, due: u32, got: u32, call: &dyn Fn() -> String) {
+        self.count += 1;
+        if due != got {
+            wrong(&format!("{} expected={} got={}", call(), due, got));
+        }
+    }
+
+    // One step.
+    fn step(&mut self, record: &[u8], sample: u8) -> Outcome {
+        let got = lent::step(record, sample);
+        self.same(step_due(record, sample), got.clone(), &|| {
+            format!("step record={} sample={}", hex(record), sample)
+        });
+        got
+    }
+
+    // One advance.
+    fn advance(&mut self, record: &[u8], ticks: u16) -> Outcome {
+        let got = lent::advance(record, ticks);
+        self.same(advance_due(record, ticks), got.clone(), &|| {
+            format!("advance record={} n={}", hex(record), ticks)
+        });
+        got
+    }
+
+    // One look at the pins.
+    fn pins(&mut self, record: &[u8], out_len: usize) -> Outcome {
+        let got = lent::pins(record, out_len);
+        self.same(pins_due(record, out_len), got.clone(), &|| {
+            format!("pins record={} out_len={}", hex(record), out_len)
+        });
+        got
+    }
+
+    // One write asked of the host.
+    fn write(&mut self, first: usize, nibbles: &[u8], out_len: usize) -> Outcome {
+        let due = host_due(model::write(first as u64, nibbles, out_len), out_len);
+        let got = lent::write(first, nibbles, out_len);
+        self.same(due, got.clone(), &|| {
+            format!(
+                "ht1621_write first={} nibbles={} out_len={}",
+                first,
+                hex(nibbles),
+                out_len
+            )
+        });
+        got
+    }
+
+    // One read asked of the host.
+    fn read(&mut self, first: usize, count: usize, out_len: usize) -> Outcome {
+        let due = host_due(model::read(first as u64, count as u64, out_len), out_len);
+        let got = lent::read(first, count, out_len);
+        self.same(due, got.clone(), &|| {
+            format!("ht1621_read first={} count={} out_len={}", first, count, out_len)
+        });
+        got
+    }
+
+    // Commands asked of the host.
+    fn commands(&mut self, codes: &[u8], out_len: usize) -> Outcome {
+        let due = host_due(model::commands(codes, out_len), out_len);
+        let got = lent::commands(codes, out_len);
+        self.same(due, got.clone(), &|| {
+            format!("ht1621_commands codes={} out_len={}", hex(codes), out_len)
+        });
+        got
+    }
+
+    // Noted bytes given to the host.
+    fn decode(&mut self, noted: &[u8], out_len: usize) -> Outcome {
+        let due = host_due(model::decode(noted, out_len), out_len);
+        let got = lent::decode(noted, out_len);
+        self.same(due, got.clone(), &|| {
+            format!("ht1621_decode noted={} out_len={}", hex(noted), out_len)
+        });
+        got
+    }
+
+    // One power-on.
+    fn power_on(&mut self, memory: &[u8], record_len: usize) -> Outcome {
+        let got = lent::power_on(memory, record_len);
+        self.same(power_on_due(memory, record_len), got.clone(), &|| {
+            format!("ht1621_power_on memory={} record_len={}", hex(memory), record_len)
+        });
+        got
+    }
+}
+
+// A random valid record in a phase.
+fn record_in(dice: &mut Dice, phase: u8) -> [u8; 64] {
+    let mut record = [0; 64];
+    record[..32].copy_from_slice(&dice.bytes(32, 16));
+    record[32] = 2 * dice.byte(8) + (phase == 0) as u8;
+    record[33] = phase;
+    record[34] = dice.byte(most_bits(phase) as usize + 1);
+    record[35] = dice.byte(1 << record[34]);
+    if phase == 4 || phase == 5 {
+        record[37] = dice.byte(32);
+        record[38] = dice.byte(4);
+        record[39] = dice.byte(3);
+    }
+    set_settings(dice, &mut record);
+    set_counters(dice, &mut record);
+    record
+}
+
+// Gives a record random settings.
+fn set_settings(dice: &mut Dice, record: &mut [u8; 64]) {
+    record[40] = dice.pick(&[0, 1, 1]);
+    record[41] = dice.byte(3);
+    record[42] = dice.pick(&[0, 1, 1]);
+    record[43] = dice.pick(&[2, 3]);
+    record[44] = dice.pick(&[2, 3, 4]);
+    record[45] = dice.byte(2);
+    record[46] = dice.pick(&[2, 4]);
+    record[47] = dice.pick(&[0, 1, 1]);
+    record[48] = dice.byte(8);
+    record[49] = dice.pick(&[0, 1, 1]);
+    record[50] = dice.byte(3);
+    record[51] = dice.byte(2);
+    record[57] = dice.byte(2);
+}
+
+// Gives a record random counters, often on the edge of a step.
+fn set_counters(dice: &mut Dice, record: &mut [u8; 64]) {
+    let edge = dice.once_in(2);
+    record[52] = if edge { dice.pick(&[0, 6, 7]) } else { dice.byte(8) };
+    record[53] = if edge {
+        dice.pick(&[0, 3, 4, 7, 8, 11, 12, 15])
+    } else {
+        dice.byte(16)
+    };
+    record[54] = if edge {
+        dice.pick(&[0, 1, 63, 126, 127])
+    } else {
+        dice.byte(128)
+    };
+    record[55] = if edge {
+        dice.pick(&[0, 1, 127, 128, 254, 255])
+    } else {
+        dice.byte(256)
+    };
+    record[56] = if edge { dice.pick(&[0, 3]) } else { dice.byte(4) };
+}
+
+// A random valid record in any phase.
+fn random_record(dice: &mut Dice) -> [u8; 64] {
+    let phase = dice.byte(8);
+    record_in(dice, phase)
+}
+
+// The most unfinished bits of a phase.
+fn most_bits(phase: u8) -> u8 {
+    [0, 2, 5, 5, 0, 3, 8, 0][phase as usize]
+}
+
+// The two samples that send a bit.
+fn sent(bit: u8) -> [u8; 2] {
+    [4 + 8 * bit, 6 + 8 * bit]
+}
+
+// Feeds samples to a record and gives the last answer and the record.
+fn fed(tally: &mut Tally, record: &[u8], samples: &[u8]) -> Outcome {
+    let mut last = (0, record.to_vec());
+    for &sample in samples {
+        last = tally.step(&last.1, sample);
+    }
+    last
+}
+
+// The paper's own examples and cases, with its numbers and not the model's.
+fn paper_cases(tally: &mut Tally) {
+    let chip = tally.power_on(&[0; 32], 64).1;
+    answer_cases(tally, &chip);
+    length_cases(tally);
+    let four_commons = commanded(tally, &chip, &[0x2B]);
+    tally.equal(4, four_commons[44] as u32, &|| {
+        format!("(f) byte 44 after 2b of record={}", hex(&chip))
+    });
+    clear_cases(tally, &chip);
+    tick_cases(tally, &chip);
+}
+
+// Cases (a) and (b).
+fn answer_cases(tally: &mut Tally, chip: &[u8]) {
+    let opened = lent::step(chip, 15);
+    tally.equal(0, opened.0, &|| {
+        format!("(a) step record={} sample=15", hex(chip))
+    });
+    tally.equal(1, lent::step(&opened.1, 14).0, &|| {
+        format!("(a) step record={} sample=14", hex(&opened.1))
+    });
+    tally.equal(20, lent::step(chip, 16).0, &|| {
+        format!("(b) step record={} sample=16", hex(chip))
+    });
+}
+
+// Cases (c), (d), (e), the second half of (f), (k) and the 29 samples of the listing.
+fn length_cases(tally: &mut Tally) {
+    let write = |first, nibbles: &[u8]| lent::write(first, nibbles, 300).0;
+    tally.equal(29, write(0, &[1]), &|| {
+        "(c) ht1621_write first=0 nibbles=01 out_len=300".to_string()
+    });
+    tally.equal(277, write(0, &[1; 32]), &|| {
+        "(c) ht1621_write first=0, 32 nibbles 01, out_len=300".to_string()
+    });
+    tally.equal(29, write(31, &[1]), &|| {
+        "(d) ht1621_write first=31 nibbles=01 out_len=300".to_string()
+    });
+    let above = (1 << 31) + 22;
+    tally.equal(above, write(31, &[1; 2]), &|| {
+        "(d) ht1621_write first=31 nibbles=0101 out_len=300".to_string()
+    });
+    let commands = |codes: &[u8]| lent::commands(codes, 300).0;
+    tally.equal(27, commands(&[1]), &|| {
+        "(e) ht1621_commands codes=01 out_len=300".to_string()
+    });
+    let undefined = (1 << 31) + 24;
+    tally.equal(undefined, commands(&[0x2C]), &|| {
+        "(f) ht1621_commands codes=2c out_len=300".to_string()
+    });
+    let decoded = lent::decode(&[1, 0, 1, 0], 1);
+    tally.same((1, vec![5]), decoded, &|| {
+        "(k) ht1621_decode noted=01000100 out_len=1".to_string()
+    });
+    let five: Vec<u8> = b"fece46ce46464646cecece46ce46f"
+        .iter()
+        .map(|&digit| digit_value(digit))
+        .collect();
+    let written = lent::write(3, &[5], 29);
+    tally.same((29, five), written, &|| {
+        "ht1621_write first=3 nibbles=05 out_len=29".to_string()
+    });
+}
+
+// The value of a hex digit.
+fn digit_value(digit: u8) -> u8 {
+    if digit <= b'9' {
+        digit - b'0'
+    } else {
+        digit - b'a' + 10
+    }
+}
+
+// Case (g).
+fn clear_cases(tally: &mut Tally, chip: &[u8]) {
+    let mut counted = chip.to_vec();
+    counted[55] = 200;
+    counted[56] = 2;
+    for &(code, w) in [(0x0C, 2), (0x0D, 2), (0x0E, 0), (0x0F, 0)].iter() {
+        let cleared = commanded(tally, &counted, &[code]);
+        let after = |index: usize| {
+            format!(
+                "(g) byte {} after {:02x} of record={}",
+                index,
+                code,
+                hex(&counted)
+            )
+        };
+        tally.equal(0, cleared[55] as u32, &|| after(55));
+        tally.equal(w, cleared[56] as u32, &|| after(56));
+    }
+}
+
+// Cases (h), (i) and (j).
+fn tick_cases(tally: &mut Tally, chip: &[u8]) {
+    let flag = commanded(tally, chip, &[0x01, 0x14, 0xA7, 0x0E, 0x07]);
+    let timer = commanded(tally, chip, &[0x01, 0x14, 0xA7, 0x0C, 0x06, 0x88]);
+    let slow = commanded(tally, chip, &[0x01, 0x18, 0xA7, 0x0C, 0x06, 0x88]);
+    for &(ticks, due) in [(1023, 0), (1024, 1)].iter() {
+        let set = lent::advance(&flag, ticks).1[51] as u32;
+        tally.equal(due, set, &|| {
+            format!("(h) byte 51 after advance record={} n={}", hex(&flag), ticks)
+        });
+    }
+    for &(ticks, due) in [(127, 0), (128, 1)].iter() {
+        let low = irq_after(&timer, ticks);
+        tally.equal(due, low, &|| {
+            format!("(i) IRQ after advance record={} n={}", hex(&timer), ticks)
+        });
+    }
+    for &(ticks, due) in [(1023, 0), (1024, 1)].iter() {
+        let low = irq_after(&slow, ticks);
+        tally.equal(due, low, &|| {
+            format!("(j) IRQ after advance record={} n={}", hex(&slow), ticks)
+        });
+    }
+}
+
+// Whether IRQ is low after ticks.
+fn irq_after(record: &[u8], ticks: u16) -> u32 {
+    lent::pins(&lent::advance(record, ticks).1, 32).0 & 1
+}
+
+// A record after commands that the host has put into samples.
+fn commanded(tally: &mut Tally, record: &[u8], codes: &[u8]) -> Vec<u8> {
+    let stream = tally.commands(codes, 9 + 18 * codes.len());
+    fed(tally, record, &stream.1).1
+}
+
+// All 512 nine-bit codes, bit by bit, from the chip at power-on and from chips
+// with many settings; then each once more as the second command of its frame.
+fn codes(tally: &mut Tally) {
+    let mut chips = vec![tally.power_on(&[0; 32], 64).1];
+    for clock in 0..3 {
+        for irq_source in 0..3 {
+            let mut record = record_in(&mut tally.dice, 0);
+            record[40] = 1;
+            record[41] = clock;
+            record[42] = 1;
+            record[50] = irq_source;
+            record[51] = 1;
+            record[54] = 77;
+            record[55] = 201;
+            record[56] = 3;
+            chips.push(record.to_vec());
+        }
+    }
+    for chip in &chips {
+        let frame = fed(tally, chip, &[15, 14, 12, 14, 4, 6, 4, 6]).1;
+        let passed_over: u32 = (0..512).map(|code| nine_bits(tally, &frame, code)).sum();
+        tally.equal(176, passed_over, &|| {
+            format!("undefined codes from record={}", hex(chip))
+        });
+    }
+}
+
+// Sends a nine-bit code twice into a command frame; 1 if it was passed over.
+fn nine_bits(tally: &mut Tally, frame: &[u8], code: u32) -> u32 {
+    let samples: Vec<u8> = (0..9)
+        .rev()
+        .flat_map(|place| sent((code >> place & 1) as u8).to_vec())
+        .collect();
+    let first = fed(tally, frame, &samples);
+    let sends = || format!("last step of record={} samples={}", hex(frame), hex(&samples));
+    tally.equal(code >> 1, first.0 >> 8, &|| {
+        format!("first detail of the {}", sends())
+    });
+    let second = fed(tally, &first.1, &samples);
+    tally.equal(first.0, second.0, &|| format!("second time, {}", sends()));
+    (second.0 & 255 == 7) as u32
+}
+
+// Every sample 0 to 255 from records of every phase, count, value, position and
+// DATA, with every state of the lines that the phase allows.
+fn every_sample(tally: &mut Tally) {
+    for phase in 0..8 {
+        for count in 0..=most_bits(phase) {
+            for value in 0..1u16 << count {
+                from_values(tally, phase, count, value as u8);
+            }
+        }
+    }
+}
+
+// Every sample from records with a phase, a count and a value.
+fn from_values(tally: &mut Tally, phase: u8, count: u8, value: u8) {
+    let addresses: &[u8] = match phase {
+        4 => &[0, 1, 7, 8, 15, 16, 23, 30, 31],
+        5 => &[0, 1, 15, 30, 31],
+        _ => &[0],
+    };
+    let in_data = phase == 4 || phase == 5;
+    for &address in addresses {
+        for place in 0..if in_data { 12 } else { 1 } {
+            let mut record = record_in(&mut tally.dice, phase);
+            record[34] = count;
+            record[35] = value;
+            record[37] = address;
+            record[38] = place / 3;
+            record[39] = place % 3;
+            from_lines(tally, record);
+        }
+    }
+}
+
+// Every sample from a record with each state of its lines.
+fn from_lines(tally: &mut Tally, mut record: [u8; 64]) {
+    let cs = (record[33] == 0) as u8;
+    for others in 0..8 {
+        record[32] = 2 * others + cs;
+        for sample in 0..=255 {
+            tally.step(&record, sample);
+        }
+    }
+}
+
+// Writes and reads of every first and count from 0 to 40, huge ones, long
+// buffers, and every nibble at every place.
+fn spans(tally: &mut Tally) {
+    for first in 0..=40 {
+        for count in 0..=40 {
+            let nibbles = tally.dice.bytes(count, 16);
+            tally.write(first, &nibbles, 400);
+            tally.read(first, count, 400);
+        }
+    }
+    huge_spans(tally);
+    for &len in [64, 255, 256, 257, 288, 512, 65_535, 65_536, 65_537, 65_568].iter() {
+        for &first in [
+            0,
+            1,
+            31,
+            32,
+            usize::MAX,
+            usize::MAX - len + 1,
+            usize::MAX - len + 33,
+        ]
+        .iter()
+        {
+            tally.write(first, &vec![3; len], 300);
+            tally.read(first, len, 300);
+        }
+    }
+    for place in 0..32 {
+        for nibble in 0..=255 {
+            let mut nibbles = tally.dice.bytes(32, 16);
+            nibbles[place] = nibble;
+            tally.write(0, &nibbles, 277);
+        }
+    }
+}
+
+// Numbers near the ends of 8, 16, 32 and 64 bits.
+fn huge_numbers() -> Vec<usize> {
+    let mut numbers = vec![usize::MAX / 2, usize::MAX / 2 + 1, usize::MAX / 2 + 2];
+    for &width in [8, 16, 31, 32, 33, 48, 63].iter() {
+        numbers.extend((0..40).map(|more| (1usize << width) + more));
+        numbers.extend((1..40).map(|less| (1usize << width) - less));
+    }
+    numbers.extend((0..40).map(|less| usize::MAX - less));
+    numbers
+}
+
+// Writes and reads with huge firsts and counts, also such whose sum wraps.
+fn huge_spans(tally: &mut Tally) {
+    for &huge in &huge_numbers() {
+        for &small in [0, 1, 2, 16, 31, 32, 33].iter() {
+            tally.write(huge, &vec![5; small], 300);
+            tally.read(huge, small, 300);
+            tally.read(small, huge, 300);
+            tally.read(huge, usize::MAX - huge + 1 + small, 300);
+        }
+        tally.read(huge, huge, 300);
+    }
+}
+
+// Commands of every number from 0 to 40 and many more, and every code at every
+// place of a short and a full list.
+fn commands_asked(tally: &mut Tally) {
+    let defined: Vec<u8> = (0..=255).filter(|&code| model::defined(code)).collect();
+    for count in (0..=40).chain([64, 255, 256, 257, 288, 65_536, 65_537, 65_568].iter().copied()) {
+        let codes: Vec<u8> = (0..count).map(|_| tally.dice.pick(&defined)).collect();
+        tally.commands(&codes, 600);
+        tally.commands(&vec![0x2C; count], 600);
+    }
+    for &count in [1, 2, 5, 32].iter() {
+        for place in 0..count {
+            for code in 0..=255 {
+                let mut codes: Vec<u8> = (0..count).map(|_| tally.dice.pick(&defined)).collect();
+                codes[place] = code;
+                tally.commands(&codes, 9 + 18 * count);
+            }
+        }
+    }
+}
+
+// Buffers for output that lack bytes, fit, or have bytes to spare.
+fn near(needed: usize) -> Vec<usize> {
+    vec![0, 1, needed.saturating_sub(1), needed, needed + 1, needed + 40]
+}
+
+// Lists of a length with no fault, and with a fault at the first, a middle and
+// the last place and at two places.
+fn faulty(len: usize, good: u8, bad: u8) -> Vec<Vec<u8>> {
+    let mut lists = vec![vec![good; len]];
+    if len > 0 {
+        for &(one, two) in [
+            (0, 0),
+            (len / 2, len / 2),
+            (len - 1, len - 1),
+            (len / 2, len - 1),
+            (0, len - 1),
+        ]
+        .iter()
+        {
+            let mut list = vec![good; len];
+            list[one] = bad;
+            list[two] = bad;
+            lists.push(list);
+        }
+    }
+    lists
+}
+
+// Inputs that earn several refusals at once, for every call.
+fn refusal_orders(tally: &mut Tally) {
+    for &count in [0, 1, 2, 27, 28, 31, 32, 33, 64].iter() {
+        for &first in [0, 4, 5, 30, 31, 32, 33, usize::MAX].iter() {
+            for &out_len in &near(21 + 8 * count) {
+                for nibbles in faulty(count, 9, 16).iter().chain(&faulty(count, 15, 255)) {
+                    tally.write(first, nibbles, out_len);
+                }
+                tally.read(first, count, out_len);
+            }
+        }
+        for &out_len in &near(9 + 18 * count) {
+            for list in faulty(count, 0x2B, 0x2C).iter().chain(&faulty(count, 0xE3, 0xFF)) {
+                tally.commands(list, out_len);
+            }
+        }
+    }
+    for &len in [
+        0, 1, 2, 3, 4, 5, 8, 31, 32, 33, 63, 64, 127, 128, 129, 130, 132, 256,
+    ]
+    .iter()
+    {
+        for &out_len in &near(len / 4) {
+            for noted in faulty(len, 1, 2).iter().chain(&faulty(len, 0, 255)) {
+                tally.decode(noted, out_len);
+            }
+        }
+        for &out_len in &near(64) {
+            for memory in faulty(len, 15, 16).iter().chain(&faulty(len, 0, 255)) {
+                tally.power_on(memory, out_len);
+            }
+        }
+    }
+    malformed_first(tally);
+}
+
+// A malformed record goes before a sample above 15 and before a short buffer.
+fn malformed_first(tally: &mut Tally) {
+    for _ in 0..200 {
+        let mut record = random_record(&mut tally.dice).to_vec();
+        let place = tally.dice.pick(&[0, 31, 32, 33, 34, 37, 40, 57, 58, 63]);
+        for malformed in 0..2 {
+            record[place] |= 0x80 * malformed;
+            for &sample in [0, 15, 16, 255].iter() {
+                tally.step(&record, sample);
+            }
+            for &out_len in &near(32) {
+                tally.pins(&record, out_len);
+            }
+            tally.advance(&record, 65_535);
+        }
+    }
+}
+
+// The three calls of the simulator on a record.
+fn three_calls(tally: &mut Tally, record: &[u8]) {
+    let (sample, ticks) = (tally.dice.byte(16), tally.dice.byte(20));
+    tally.step(record, sample);
+    tally.advance(record, ticks as u16);
+    tally.pins(record, 32);
+}
+
+// Each byte of many valid records set to every value.
+fn record_bytes(tally: &mut Tally) {
+    for round in 0..64 {
+        let record = record_in(&mut tally.dice, round % 8);
+        for index in 0..64 {
+            for byte in 0..=255 {
+                let mut changed = record;
+                changed[index] = byte;
+                three_calls(tally, &changed);
+            }
+        }
+    }
+}
+
+// Every unfinished count with every value's low byte and some high bytes, and
+// every phase with every state of the lines and of bytes 37 to 39.
+fn record_pairs(tally: &mut Tally) {
+    for phase in 0..8 {
+        let mut record = record_in(&mut tally.dice, phase);
+        for count in (0..12).chain([15, 16, 31, 32, 33, 64, 128, 255].iter().copied()) {
+            for value in 0..=255 {
+                for &high in [0, 1, 2, 128, 255].iter() {
+                    record[34] = count;
+                    record[35] = value;
+                    record[36] = high;
+                    tally.advance(&record, 0);
+                }
+            }
+        }
+        let mut record = record_in(&mut tally.dice, phase);
+        for lines in 0..16 {
+            for place in 0..120 {
+                record[32] = lines;
+                record[37] = [0, 1, 31, 32, 255][place % 5];
+                record[38] = [0, 1, 2, 3, 4, 255][place / 5 % 6];
+                record[39] = (place / 30) as u8;
+                tally.advance(&record, 0);
+            }
+        }
+    }
+}
+
+// Records of every length from 0 to 130.
+fn record_lengths(tally: &mut Tally) {
+    for round in 0..16 {
+        let record = record_in(&mut tally.dice, round % 8);
+        for len in 0..=130 {
+            let mut cut = record.to_vec();
+            cut.resize(len, 0);
+            three_calls(tally, &cut);
+            tally.step(&cut, 16);
+            tally.pins(&cut, 31);
+        }
+    }
+}
+
+// Buffers for output of every length up to past the needed one.
+fn output_lengths(tally: &mut Tally) {
+    for count in 1..=32 {
+        let nibbles = tally.dice.bytes(count, 16);
+        for out_len in 0..=21 + 8 * count + 9 {
+            tally.write(32 - count, &nibbles, out_len);
+            tally.read(32 - count, count, out_len);
+        }
+        let codes = vec![0x88; count];
+        for out_len in 0..=9 + 18 * count + 19 {
+            tally.commands(&codes, out_len);
+        }
+        let noted = tally.dice.bytes(4 * count, 2);
+        for out_len in 0..=count + 5 {
+            tally.decode(&noted, out_len);
+        }
+    }
+    for round in 0..16 {
+        let record = record_in(&mut tally.dice, round % 8);
+        for out_len in 0..=130 {
+            tally.pins(&record, out_len);
+            tally.power_on(&record[..32], out_len);
+        }
+    }
+}
+
+// Noted bytes of every length from 0 to 140 and many more, and bad bytes at
+// every place.
+fn decodings(tally: &mut Tally) {
+    for len in (0..=140).chain([255, 256, 260, 384, 512, 65_536, 65_540, 65_664].iter().copied()) {
+        for _ in 0..8 {
+            let noted = tally.dice.bytes(len, 2);
+            tally.decode(&noted, 40);
+        }
+    }
+    for len in 0..=140 {
+        for place in 0..len {
+            for &bad in [2, 3, 16, 128, 254, 255].iter() {
+                let mut noted = tally.dice.bytes(len, 2);
+                noted[place] = bad;
+                tally.decode(&noted, 40);
+                noted[len - 1] = 7;
+                tally.decode(&noted, 0);
+            }
+        }
+    }
+    for four in 0..16u8 {
+        tally.decode(&[four & 1, four >> 1 & 1, four >> 2 & 1, four >> 3], 1);
+    }
+    for byte in 0..=255 {
+        tally.decode(&[0, 1, byte, 1], 1);
+    }
+}
+
+// Memories of every length from 0 to 130, and every value at every place.
+fn power_ons(tally: &mut Tally) {
+    for len in (0..=130).chain([256, 288, 65_536, 65_568].iter().copied()) {
+        let memory = tally.dice.bytes(len, 16);
+        tally.power_on(&memory, 64);
+        tally.power_on(&vec![16; len], 64);
+    }
+    for place in 0..32 {
+        for value in 0..=255 {
+            let mut memory = tally.dice.bytes(32, 16);
+            memory[place] = value;
+            tally.power_on(&memory, 64);
+            memory[31] = 99;
+            tally.power_on(&memory, 64);
+        }
+    }
+}
+
+// Advances by edge numbers of ticks at every rate and clock, and by single ticks.
+fn advances(tally: &mut Tally) {
+    let edges = [
+        0, 1, 2, 7, 8, 9, 15, 16, 17, 63, 64, 127, 128, 129, 255, 256, 1023, 1024, 1025, 4096, 8191, 8192,
+        32_767, 32_768, 65_534, 65_535,
+    ];
+    for kind in 0..96 {
+        for _ in 0..6 {
+            let mut record = random_record(&mut tally.dice);
+            record[40] = kind & 1;
+            record[41] = kind / 2 % 3;
+            record[48] = kind / 6 % 8;
+            record[49] = kind / 48;
+            for &ticks in edges.iter() {
+                let advanced = tally.advance(&record, ticks).1;
+                tally.pins(&advanced, 32);
+            }
+            single_ticks(tally, record);
+        }
+    }
+}
+
+// So many single ticks come to the same as one advance.
+fn single_ticks(tally: &mut Tally, record: [u8; 64]) {
+    let ticks = tally.dice.below(3000) as u16;
+    let mut one_by_one = record.to_vec();
+    for _ in 0..ticks {
+        one_by_one = lent::advance(&one_by_one, 1).1;
+    }
+    let at_once = lent::advance(&record, ticks);
+    tally.same((0, one_by_one), at_once, &|| {
+        format!("advance record={} n={}", hex(&record), ticks)
+    });
+}
+
+/// The samples still to come in a walk, last one first.
+struct Plan {
+    samples: Vec<u8>,
+}
+
+impl Plan {
+    // A frame of a random kind, often disturbed and sometimes cut short.
+    fn frame(dice: &mut Dice) -> Plan {
+        let mut plan = Plan {
+            samples: vec![
+                2 * dice.byte(8) + 1,
+                dice.pick(&[14, 14, 14, 0, 2, 4, 6, 8, 10, 12]),
+            ],
+        };
+        match dice.below(9) {
+            0 | 1 => plan.read_frame(dice),
+            2 | 3 | 4 => plan.write_frame(dice),
+            5 | 6 => plan.command_frame(dice),
+            7 => plan.dead_frame(dice),
+            _ => plan.noise(dice),
+        }
+        if dice.once_in(5) {
+            let keep = dice.below(plan.samples.len()) + 1;
+            plan.samples.truncate(keep);
+        }
+        plan.samples.reverse();
+        plan
+    }
+
+    // Sends a bit.
+    fn send(&mut self, dice: &mut Dice, bit: u8) {
+        self.samples.extend_from_slice(&sent(bit));
+        self.disturb(dice);
+    }
+
+    // Sends a number's bits, first bit highest.
+    fn send_number(&mut self, dice: &mut Dice, width: u8, number: u16) {
+        for place in (0..width).rev() {
+            self.send(dice, (number >> place & 1) as u8);
+        }
+    }
+
+    // Reads a bit.
+    fn read(&mut self, dice: &mut Dice) {
+        self.samples.extend_from_slice(&[10, 14]);
+        self.disturb(dice);
+    }
+
+    // Now and then a sample that does not belong here.
+    fn disturb(&mut self, dice: &mut Dice) {
+        if dice.once_in(40) {
+            self.samples.push(2 * dice.byte(8));
+        }
+        if dice.once_in(400) {
+            self.samples.push(dice.byte(16));
+        }
+        if dice.once_in(200) {
+            self.samples.push(16 + dice.byte(240));
+        }
+        if dice.once_in(60) {
+            self.samples.extend_from_slice(&[4, 2, 14]);
+        }
+    }
+
+    // An ID and a random address.
+    fn head(&mut self, dice: &mut Dice, id: u16) {
+        self.send_number(dice, 3, id);
+        let address = dice.below(64) as u16;
+        self.send_number(dice, 6, address);
+    }
+
+    // A read frame, sometimes with stray WR rises.
+    fn read_frame(&mut self, dice: &mut Dice) {
+        self.head(dice, 6);
+        for _ in 0..dice.pick(&[3, 9, 40, 160]) {
+            if dice.once_in(20) {
+                self.send(dice, 1);
+            }
+            self.read(dice);
+        }
+    }
+
+    // A write frame, with bits read in between.
+    fn write_frame(&mut self, dice: &mut Dice) {
+        self.head(dice, 5);
+        for _ in 0..dice.pick(&[2, 6, 20, 160]) {
+            if dice.once_in(3) {
+                for _ in 0..dice.below(7) {
+                    self.read(dice);
+                }
+            }
+            let bit = dice.byte(2);
+            self.send(dice, bit);
+        }
+    }
+
+    // A command frame, most of its codes defined.
+    fn command_frame(&mut self, dice: &mut Dice) {
+        self.send_number(dice, 3, 4);
+        for _ in 0..=dice.below(8) {
+            let mut code = dice.byte(256);
+            if !model::defined(code) || dice.once_in(2) {
+                code = dice.pick(&[
+                    0, 1, 1, 2, 3, 4, 5, 6, 7, 8, 9, 12, 14, 0x15, 0x19, 0x1D, 0x2A, 0x88, 0xA6, 0xB7, 0xFF,
+                ]);
+            }
+            let ninth = dice.byte(2) as u16;
+            self.send_number(dice, 9, 2 * code as u16 + ninth);
+            if dice.once_in(10) {
+                self.read(dice);
+            }
+        }
+    }
+
+    // A frame with an unknown ID.
+    fn dead_frame(&mut self, dice: &mut Dice) {
+        let id = dice.pick(&[0, 1, 2, 3, 7]);
+        self.send_number(dice, 3, id);
+        for _ in 0..dice.below(12) {
+            self.read(dice);
+            self.send(dice, 1);
+        }
+    }
+
+    // Samples at random, CS mostly low.
+    fn noise(&mut self, dice: &mut Dice) {
+        for _ in 0..dice.below(200) {
+            let sample = dice.byte(16);
+            self.samples
+                .push(if dice.once_in(30) { sample } else { sample & 14 });
+        }
+    }
+}
+
+// A number of ticks for a walk, mostly small.
+fn some_ticks(dice: &mut Dice) -> u16 {
+    match dice.below(64) {
+        0 => dice.below(65_536) as u16,
+        1..=6 => dice.below(1100) as u16,
+        _ => dice.below(17) as u16,
+    }
+}
+
+// Walks of so many samples: the model goes on living from sample to sample while
+// the library has only the record.
+fn walks(tally: &mut Tally, samples: u64) {
+    let mut record = random_record(&mut tally.dice).to_vec();
+    let mut chip = Model::from_record(&record).expect("a valid record");
+    let mut plan = Plan::frame(&mut tally.dice);
+    for number in 0..samples {
+        if plan.samples.is_empty() {
+            plan = Plan::frame(&mut tally.dice);
+            if tally.dice.once_in(16) {
+                record = random_record(&mut tally.dice).to_vec();
+                chip = Model::from_record(&record).expect("a valid record");
+            }
+        }
+        if tally.dice.once_in(8) {
+            record = walk_ticks(tally, &mut chip, record);
+        }
+        let sample = plan.samples.pop().unwrap_or(15);
+        record = walk_sample(tally, &mut chip, record, sample);
+        if number % 16 == 0 {
+            walk_pins(tally, &chip, &record);
+        }
+    }
+}
+
+// Ticks of a walk.
+fn walk_ticks(tally: &mut Tally, chip: &mut Model, record: Vec<u8>) -> Vec<u8> {
+    let ticks = some_ticks(&mut tally.dice);
+    chip.advance(ticks);
+    let got = lent::advance(&record, ticks);
+    tally.same((0, chip.record().to_vec()), got.clone(), &|| {
+        format!("advance record={} n={}", hex(&record), ticks)
+    });
+    got.1
+}
+
+// A sample of a walk.
+fn walk_sample(tally: &mut Tally, chip: &mut Model, record: Vec<u8>, sample: u8) -> Vec<u8> {
+    let number = match chip.sample(sample) {
+        Ok(answer) => answer_number(answer),
+        Err(refusal) => refusal as u32,
+    };
+    let got = lent::step(&record, sample);
+    let due = (number, chip.record().to_vec());
+    tally.same(due, got.clone(), &|| {
+        format!("step record={} sample={}", hex(&record), sample)
+    });
+    got.1
+}
+
+// The pins of a walk.
+fn walk_pins(tally: &mut Tally, chip: &Model, record: &[u8]) {
+    let (sum, cells) = chip.pins();
+    let got = lent::pins(record, 32);
+    tally.same((sum, cells.to_vec()), got, &|| {
+        format!("pins record={} out_len=32", hex(record))
+    });
+}
+
+/// A chip that calls have brought from one record to another.
+#[derive(Clone)]
+struct Journey {
+    from: Vec<u8>,
+    calls: Vec<Call>,
+    now: Vec<u8>,
+}
+
+/// A call of a journey.
+#[derive(Clone, Copy)]
+enum Call {
+    Step(u8),
+    Advance(u16),
+}
+
+impl Journey {
+    // A journey that starts at a record.
+    fn from(record: &[u8]) -> Journey {
+        Journey {
+            from: record.to_vec(),
+            calls: Vec::new(),
+            now: record.to_vec(),
+        }
+    }
+
+    // Steps with a sample and gives the answer.
+    fn step(&mut self, sample: u8) -> u32 {
+        self.calls.push(Call::Step(sample));
+        let (answer, after) = lent::step(&self.now, sample);
+        self.now = after;
+        answer
+    }
+
+    // Advances by ticks.
+    fn advance(&mut self, ticks: u16) {
+        self.calls.push(Call::Advance(ticks));
+        self.now = lent::advance(&self.now, ticks).1;
+    }
+
+    // The journey as words: where it started, and its samples and +ticks.
+    fn told(&self) -> String {
+        let calls: Vec<String> = self.calls.iter().map(|call| call.told()).collect();
+        format!("record={} calls={}", hex(&self.from), calls.join(","))
+    }
+}
+
+impl Call {
+    // A call as a word.
+    fn told(&self) -> String {
+        match *self {
+            Call::Step(sample) => format!("{}", sample),
+            Call::Advance(ticks) => format!("+{}", ticks),
+        }
+    }
+}
+
+/// A write asked for, and the stream that the host made of it.
+struct Request {
+    first: usize,
+    nibbles: Vec<u8>,
+    stream: Vec<u8>,
+}
+
+impl Request {
+    // A random write and its stream, which has 21 + 8N samples.
+    fn random(tally: &mut Tally) -> Request {
+        let first = tally.dice.below(32);
+        let most = tally.dice.pick(&[1, 3, 6, 12, 32]);
+        let count = 1 + tally.dice.below(std::cmp::min(most, 32 - first));
+        let nibbles = tally.dice.bytes(count, 16);
+        let needed = 21 + 8 * count;
+        let (written, stream) = lent::write(first, &nibbles, needed);
+        tally.equal(needed as u32, written, &|| {
+            format!("ht1621_write first={} nibbles={}", first, hex(&nibbles))
+        });
+        Request {
+            first,
+            nibbles,
+            stream,
+        }
+    }
+
+    // How many nibbles are complete after so many samples.
+    fn complete(&self, samples: usize) -> usize {
+        (1..=self.nibbles.len()).filter(|i| 20 + 8 * i <= samples).count()
+    }
+
+    // The memory due after so many samples on a memory.
+    fn memory_due(&self, before: &[u8], samples: usize) -> Vec<u8> {
+        let complete = self.complete(samples);
+        let mut memory = before[..32].to_vec();
+        memory[self.first..self.first + complete].copy_from_slice(&self.nibbles[..complete]);
+        memory
+    }
+
+    // The answer due to a sample after the first, counted from 1.
+    fn answer_due(&self, number: usize) -> u32 {
+        if number == 2 {
+            return 1;
+        }
+        if number == self.stream.len() {
+            return 2;
+        }
+        if number >= 28 && (number - 20) % 8 == 0 {
+            let index = (number - 20) / 8 - 1;
+            return 5 + 256 * (self.first + index) as u32 + 65_536 * self.nibbles[index] as u32;
+        }
+        if number % 2 == 0 {
+            4
+        } else {
+            0
+        }
+    }
+
+    // Sends the first samples of the stream with random ticks in between.
+    fn send(&self, tally: &mut Tally, chip: &mut Journey, samples: usize) {
+        for number in 1..=samples {
+            if tally.dice.once_in(6) {
+                chip.advance(some_ticks(&mut tally.dice));
+            }
+            let answer = chip.step(self.stream[number - 1]);
+            if number > 1 {
+                tally.equal(self.answer_due(number), answer, &|| {
+                    format!("last answer from {}", chip.told())
+                });
+            }
+        }
+    }
+
+    // Checks the memory that so many samples of the stream leave of an earlier one.
+    fn check(&self, tally: &mut Tally, before: &[u8], samples: usize, chip: &Journey) {
+        let due = self.memory_due(before, samples);
+        let memory = chip.now[..32].to_vec();
+        tally.same((0, due), (0, memory), &|| {
+            let nibbles = hex(&self.nibbles);
+            format!(
+                "memory in a write first={} nibbles={} from {}",
+                self.first,
+                nibbles,
+                chip.told()
+            )
+        });
+    }
+
+    // Stops the write after so many samples, sends it again and reads it back.
+    fn interrupt(&self, tally: &mut Tally, before: &[u8], samples: usize) {
+        let mut chip = Journey::from(before);
+        self.send(tally, &mut chip, samples);
+        self.check(tally, before, samples, &chip);
+        let mut closed = chip.clone();
+        closed.step(15);
+        self.check(tally, before, samples, &closed);
+        self.send(tally, &mut chip, self.stream.len());
+        self.check(tally, before, self.stream.len(), &chip);
+        read_back(tally, &chip.now, self.first, &self.nibbles);
+        if samples % 8 == 0 {
+            read_back(tally, &chip.now, 0, &self.memory_due(before, self.stream.len()));
+        }
+    }
+}
+
+// Reads nibbles back: the host's stream, DATA noted at each 14 that raises RD,
+// and the host's decoding.
+fn read_back(tally: &mut Tally, record: &[u8], first: usize, nibbles: &[u8]) {
+    let stream = tally.read(first, nibbles.len(), 21 + 8 * nibbles.len()).1;
+    let mut chip = Journey::from(record);
+    let mut noted = Vec::new();
+    for &sample in &stream {
+        let raises = sample == 14 && chip.now[32] & 4 == 0;
+        chip.step(sample);
+        if raises {
+            noted.push(noted_bit(lent::pins(&chip.now, 32).0));
+        }
+    }
+    let got = lent::decode(&noted, nibbles.len());
+    tally.same((nibbles.len() as u32, nibbles.to_vec()), got, &|| {
+        format!(
+            "ht1621_decode noted={} out_len={} noted from {}",
+            hex(&noted),
+            nibbles.len(),
+            chip.told()
+        )
+    });
+}
+
+// What a host notes of DATA: 9 where the chip does not drive it.
+fn noted_bit(pins: u32) -> u8 {
+    match pins / 8 {
+        1 => 0,
+        2 => 1,
+        _ => 9,
+    }
+}
+
+// Writes into random valid chips, stopped after every number of samples.
+fn interrupted_writes(tally: &mut Tally) {
+    for _ in 0..150 {
+        let before = random_record(&mut tally.dice);
+        let request = Request::random(tally);
+        for samples in 0..=request.stream.len() {
+            request.interrupt(tally, &before, samples);
+        }
+    }
+}
+
+/// What the program was asked on its command line.
+struct Asked {
+    samples: u64,
+    seed: u64,
+    only: Option<String>,
+}
+
+impl Asked {
+    // Takes one option; false where it is none or its value is not a number.
+    fn take(&mut self, option: &str, value: String) -> bool {
+        match (option, value.parse()) {
+            ("--samples", Ok(number)) => self.samples = number,
+            ("--seed", Ok(number)) => self.seed = number,
+            ("--only", _) => self.only = Some(value),
+            _ => return false,
+        }
+        true
+    }
+}
+
+// Reads the command line; None where it is not understood.
+fn asked() -> Option<Asked> {
+    let mut asked = Asked {
+        samples: 5_000_000,
+        seed: 1621,
+        only: None,
+    };
+    let mut words = std::env::args().skip(1);
+    while let Some(option) = words.next() {
+        if !asked.take(&option, words.next()?) {
+            return None;
+        }
+    }
+    Some(asked)
+}
+
+// Runs one check from the seed and prints its count.
+fn run(name: &str, seed: u64, check: &dyn Fn(&mut Tally)) -> u64 {
+    let mut tally = Tally {
+        count: 0,
+        dice: Dice::seeded(seed),
+    };
+    check(&mut tally);
+    println!("{}: {}", name, tally.count);
+    tally.count
+}
+
+// Runs every check, or the one asked for.
+fn main() {
+    let Some(asked) = asked() else {
+        eprintln!("usage: compare [--samples N] [--seed N] [--only CHECK]");
+        std::process::exit(2);
+    };
+    println!("seed {}, samples {}", asked.seed, asked.samples);
+    let walk = |tally: &mut Tally| walks(tally, asked.samples);
+    let checks: [(&str, &dyn Fn(&mut Tally)); 15] = [
+        ("paper cases", &paper_cases),
+        ("codes", &codes),
+        ("every sample", &every_sample),
+        ("spans", &spans),
+        ("commands asked", &commands_asked),
+        ("refusal orders", &refusal_orders),
+        ("record bytes", &record_bytes),
+        ("record pairs", &record_pairs),
+        ("record lengths", &record_lengths),
+        ("output lengths", &output_lengths),
+        ("decodings", &decodings),
+        ("power-ons", &power_ons),
+        ("advances", &advances),
+        ("walks", &walk),
+        ("interrupted writes", &interrupted_writes),
+    ];
+    let wanted = |name: &str| asked.only.as_ref().map_or(true, |only| only == name);
+    if !checks.iter().any(|&(name, _)| wanted(name)) {
+        eprintln!("no such check");
+        std::process::exit(2);
+    }
+    let chosen = checks.iter().filter(|&&(name, _)| wanted(name));
+    let total: u64 = chosen.map(|&(name, check)| run(name, asked.seed, check)).sum();
+    println!("compare: {} checks, 0 wrong", total);
+}
