@@ -1,19 +1,17 @@
 -- 01 "Driver streams" and the power-on of 01 "Commands", as calls for C: what each exported call returns, and the bytes that
 -- it leaves, for every list of bytes. Assumes nothing.
 use Prim.Native.Nat.{ℕ, _+_, _*_}
-use mathlib.Core.Bool.{not}
 use mathlib.Core.List.{List}
-use lib.Dec.{eqb}
 use lib.ListN.{length}
 use Rattle.ground.specs.declared.Refusal.{Refusal}
-use Rattle.ground.specs.declared.Refusal.the-variants.{NibbleAbove, MemoryCount}
-use Rattle.ground.specs.Places.{lowest, somewhere}
 use Rattle.ground.specs.Refusals.{refusalNumber, refusalPlace}
-use Rattle.chip.specs.PowerOn.{freshChip}
+use Rattle.chip.specs.declared.Start.{Start}
+use Rattle.chip.specs.declared.Start.the-variants as start
+use Rattle.chip.specs.PowerOn.{poweredOn}
 use Rattle.driver.specs.declared.Answer.{Answer}
 use Rattle.driver.specs.declared.Answer.the-variants.{Written, Refused}
 use Rattle.driver.specs.Streams.{writeStream, readStream, commandStream, decoded}
-use Rattle.driver.specs.Refusals.{nibbleFault, refusedIf, fitted, left, writeAnswer, readAnswer, commandAnswer, decodeAnswer}
+use Rattle.driver.specs.Refusals.{fitted, left, writeAnswer, readAnswer, commandAnswer, decodeAnswer}
 use Rattle.state.specs.Record.{recordOf}
 
 -- A refusal as one number: 2^31, which no count of bytes reaches, then the place above the lowest byte, and there the number.
@@ -25,15 +23,16 @@ unfoldable pub hostCode : Answer → ℕ
 hostCode (Written count) = count
 hostCode (Refused why) = refusedCode why
 
--- Power-on: 29, then 23 with its place, then 25; else the record of a chip that has just been powered on.
+-- Power-on as the chip answers it, 29 and then 23 with its place; where the chip is on, its record has to fit, 25 last.
+abbrev pub whereOn : Start → Answer → Answer
+whereOn start.On then = then
+whereOn (start.Refused why) then = Refused why
+
 unfoldable pub powerOnRecord : List ℕ → List ℕ
-powerOnRecord memory = recordOf (freshChip memory)
+powerOnRecord memory = recordOf (poweredOn memory .chip)
 
 unfoldable pub powerOnAnswer : List ℕ → ℕ → Answer
-powerOnAnswer memory room =
-    refusedIf (not (eqb (length memory) 32)) MemoryCount
-    (refusedIf (somewhere nibbleFault memory) (NibbleAbove (lowest nibbleFault memory))
-    (fitted (powerOnRecord memory) room))
+powerOnAnswer memory room = whereOn (poweredOn memory .answer) (fitted (powerOnRecord memory) room)
 
 unfoldable pub powerOnReturns : List ℕ → List ℕ → ℕ
 powerOnReturns memory bytes = hostCode (powerOnAnswer memory (length bytes))
