@@ -10,11 +10,10 @@ use Rattle.ground.specs.declared.Refusal.the-variants.{SampleAbove, OutputShort
 use Rattle.ground.specs.Refusals.{refusalNumber}
 use Rattle.ground.specs.Written.{over}
 use Rattle.frames.specs.declared.Answer.{Answer}
-use Rattle.frames.specs.Answers.{answerNumber, firstDetail, secondDetail}
+use Rattle.frames.specs.Answers.{answerNumber, firstDetail, secondDetail, lineNumber}
 use Rattle.chip.specs.declared.Pins.{Pins}
 use Rattle.chip.specs.Chip.{stepped, advanced}
 use Rattle.chip.specs.Pins.{pinsShown}
-use Rattle.state.specs.FrameCodes.{lineNumber}
 use Rattle.state.specs.Record.{recordValid, recordOf, chipOf}
 
 -- An answer with its two details.

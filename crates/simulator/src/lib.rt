@@ -5,11 +5,9 @@ ghost use Prim.Native.Nat.{_≤_};
 ghost use lib.ListN.{length};
 ghost use Rattle.ground.specs.Written.{over};
 ghost use Rattle.state.specs.Answers.{verdictNumber};
-ghost use Rattle.state.specs.FrameCodes.{lineNumber};
 ghost use Rattle.simulator.specs.Simulator.{answerCode, pinsCode, stepReturns, stepBytes, advanceReturns, advanceBytes, pinsReturns, pinsBytes};
 use chip::Pins;
 use frames::Answer;
-use frames::Line;
 use ground::Refusal;
 use state::Verdict;
 
@@ -33,22 +31,12 @@ fn code_of(answer: Answer) -> u32
     number as u32 + 256 * (first as u32) + 65536 * (second as u32)
 }
 
-// DATA as byte 39 has it.
-fn line_number(line: Line) -> u32
-    ensures { λ r. ⌜ r ≡ lineNumber line ⌝ }
-{
-    match line {
-        Line::Released => 0,
-        Line::Driven(bit) => 1 + (bit as u32),
-    }
-}
-
 // The pins as one number.
 fn pins_code(pins: Pins) -> u32
     ensures { λ r. ⌜ r ≡ pinsCode pins ⌝ }
 {
     let line = pins.line;
-    let driven = line_number(line);
+    let driven = line.number() as u32;
     (pins.irq as u32) + 2 * (pins.bz as u32) + 4 * (pins.partner as u32) + 8 * driven
 }
 
