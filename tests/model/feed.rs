@@ -1,5 +1,4 @@
-// Writes the captures that crates/vectors is run on, one a line: feed SEED. They are made so that vectors --coverage has all
-// that it asks for.
+// Writes the captures that crates/vectors is run on, one a line: feed SEED. They show all that vectors --coverage asks for.
 // build: rustc -O feed.rs
 // run:   ./feed 1621 > crates/vectors/stdin
 
@@ -67,8 +66,8 @@ fn every_code(random: &mut Random, out: &mut Vec<String>) {
     }
 }
 
-// The ticks before and at which IRQ goes low, by time base and by flag, with each clock, or would if it were running; what clears the
-// counters; each rate; and the tone.
+// IRQ just before it goes low and then, by time base and by flag, with each clock, and where the chip does not run; what
+// clears counters, and what becomes of a flag that is set; each rate; and the tone.
 fn timers(out: &mut Vec<String>) {
     let limits: [(&[u8], usize); 7] = [
         (&[0x14, 0x01, 0x07, 0x88], 1024),
@@ -85,13 +84,15 @@ fn timers(out: &mut Vec<String>) {
     }
     for clear in 0x0c..=0x0f {
         out.push(run(&[0x14, 0x01, 0x07, 0x88], 700) + &commands(&[clear]));
-        out.push(run(&[0x14, 0x01, 0x07, 0x88], 1100) + &commands(&[clear]));
+    }
+    for code in (0x04..=0x07).chain(0x0c..=0x0f) {
+        out.push(run(&[0x14, 0x01, 0x07, 0x88], 1100) + &commands(&[code]));
     }
     for rate in 0..8 {
         out.push(run(&[0x14, 0x01, 0x06, 0xa0 + 9 * rate % 32], 300));
     }
     for pitch in [0x40, 0x7f] {
-        for ticks in [3, 4, 8, 16] {
+        for ticks in [3, 4, 7, 8, 16] {
             out.push(run(&[0x14, 0x01, 0x09, pitch], ticks));
         }
         out.push(run(&[0x09, pitch], 8));
@@ -120,13 +121,13 @@ fn displays(random: &mut Random, out: &mut Vec<String>) {
     out.push(last + &closed(&("110111110".to_string() + &"RRRR".repeat(32))));
 }
 
-// Frames of each kind, cut after each bit: left open at the end of a capture, and closed, all in one, with frames that clash
-// in every phase. Those that read have something to read.
+// Frames of each kind, cut after each bit: left open at the end of a capture, and closed, all in one, with frames that
+// clash in every phase. Those that read have something to read.
 fn cuts(out: &mut Vec<String>) {
     let whole = [
-        "110100101RRRRRRRRR1RR",
+        "110111111RRRRRRRRR1RR",
         "1010111111011001",
-        "101000101RRRRR11RR01R0",
+        "101011111RRRRR11RR01R0",
         "1001010101110010",
         "0001R",
         "0011R",
@@ -138,7 +139,7 @@ fn cuts(out: &mut Vec<String>) {
     for text in whole {
         texts.extend((0..=text.len()).map(|length| &text[..length]));
     }
-    let write = closed("10100010110110110");
+    let write = closed("10111111110110110");
     let mut all = write.clone();
     for text in texts {
         out.push(if text.contains('R') { write.clone() + &open(text) } else { open(text) });

@@ -1,15 +1,15 @@
 // Feeds the chip with the captures of standard input and writes what it makes of them, to be held against an outside
 // authority: the file `stdout` beside `src` is what the independent model of tests/model writes for the file `stdin`.
-// A line is a capture in the listing's alphabet, with `g` added for a sample of 16, and starts at power-on with zero memory.
-// Written in hex: for each sample a line with its answer, in two digits the first detail, and the second detail; and at
-// the end of each capture a line with the pins as the simulator numbers them and the 32 cells shown, and one with the 64
-// bytes of the state record. Of the input 65,536 bytes are read. Assumes nothing beyond `libc`.
+// A line is a capture in the listing's alphabet, with `g` added for sample 16, and starts at power-on with zero memory.
+// Written in hex: for each sample a line with its answer, its first detail in two digits, and its second; and at the end
+// of each capture a line with the pins, numbered as the simulator does, and the 32 cells shown, and one with the 64 bytes
+// of the state record. Of the input 65,536 bytes are read. Assumes nothing beyond `libc`.
 ghost use mathlib.Core.Path.{_≡_};
 ghost use Rattle.vectors.specs.Vectors.{sampleOf, begun, after};
 use chip::Chip;
 use frames::Answer;
 
-// The sample of a digit.
+// The sample of a digit. A byte that is no digit gives a number too, so that there is nothing to refuse.
 fn sample_of(byte: u8) -> u8
     ensures { λ r. ⌜ r ≡ sampleOf byte ⌝ }
 {
@@ -19,10 +19,12 @@ fn sample_of(byte: u8) -> u8
     byte - b'a' + 10
 }
 
+// A byte as `io` takes numbers.
 fn wide(byte: u8) -> u64 {
     byte as u64
 }
 
+// Ends a line.
 fn end_line() {
     io::write_all(1, b"\n");
 }
@@ -65,7 +67,7 @@ fn begin() -> Chip
     on.chip
 }
 
-// The chip after a byte of the input; what there is to be seen is written.
+// The chip after a byte of the input; a sample's answer, and a capture's end, is written.
 fn fed(chip: Chip, byte: u8) -> Chip
     ensures { λ r. ⌜ r ≡ after chip byte ⌝ }
 {

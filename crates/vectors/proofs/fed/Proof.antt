@@ -1,8 +1,8 @@
 -- `vectors::fed` meets its contract: each return follows from the tests before it. Assumes nothing.
 use mathlib.Core.Path.{sym}
 use borrow.Author.Tests.{eq-eqb, ne-eqb}
-use Rattle.vectors.specs.Vectors.{after}
 use borrow.Author.Needs.{needs}
+use Rattle.vectors.specs.Vectors.{after}
 use Rattle.vectors.proofs.fed.Statement.{statement}
 use Rattle.vectors.proofs.fed.Tie as tie
 
