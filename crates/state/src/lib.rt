@@ -348,7 +348,14 @@ fn frame_of(lines: u8, code: u8, count: u8, value: u16, at: u8, position: u8, li
 }
 
 // Bytes 40 to 57, with what the coded ones among them read to.
-fn settings_with(bytes: &[u8], source: Source, bias: Bias, commons: Commons, pitch: Pitch, irq: IrqSource) -> Settings
+fn settings_with(
+    bytes: &[u8],
+    source: Source,
+    bias: Bias,
+    commons: Commons,
+    pitch: Pitch,
+    irq: IrqSource,
+) -> Settings
     requires { ⌜ length (now bytes) ≡ 64 ⌝ }
     ensures { λ r. ⌜ r ≡ settingsWith (now (bytes .entry)) source bias commons pitch irq ⌝ }
 {
