@@ -73,7 +73,7 @@ place-within test (value ∷ values) =
     either (λ (place : ℕ). place ≤ suc (length values)) (test value) (omega arith) (omega (arith, rest))
 
 -- a stream that fits, or 25
-pub fitted-small : (stream : List ℕ) (room : ℕ) → length stream ≤ 585 → Small (fitted stream room)
+fitted-small : (stream : List ℕ) (room : ℕ) → length stream ≤ 585 → Small (fitted stream room)
 fitted-small stream room h = either Small (ltb room (length stream)) (omega arith) h
 
 -- The shape that its four calls share: two tests whose refusals have no place, a fault with its place, and the room. Past

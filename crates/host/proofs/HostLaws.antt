@@ -1,26 +1,32 @@
 -- What each call returns and leaves, by what it was answered. Assumes nothing.
 use mathlib.Core.Path.{_≡_, _∙_, refl, sym, ap}
-use mathlib.Core.List.{List}
-use Prim.Native.Nat.{ℕ, _+_, _≤_, _<_}
+use mathlib.Core.Bool.{true}
+use mathlib.Core.List.{List, [], _∷_}
+use Prim.Native.Nat.{ℕ, suc, _≤_, _<_}
 use native.Mathlib.Omega.{arith}
 use lib.Dec.{eqb, ltb}
-use lib.ListN.{length, length-append}
-use borrow.Author.Tests.{lt-ltb, le-ltb, eqb-true}
+use lib.ListN.{length, getD, replicate}
+use borrow.Author.Tests.{lt-ltb, le-ltb, ltb-false, eqb-true}
 use Rattle.ground.proofs.ChoiceLaws.{either, by-cases}
+use Rattle.ground.proofs.PlacesLaws.{none-above}
 use Rattle.ground.specs.declared.Refusal.{Refusal}
 use Rattle.ground.specs.declared.Refusal.the-variants.{OutputShort}
-use Rattle.ground.specs.Places.{somewhere}
+use Rattle.ground.specs.Places.{lowest, somewhere}
 use Rattle.ground.specs.Refusals.{refusalPlace}
 use Rattle.chip.specs.declared.PoweredOn.{PoweredOn}
 use Rattle.chip.specs.declared.Start.{Start}
 use Rattle.chip.specs.declared.Start.the-variants as start
-use Rattle.chip.specs.PowerOn.{poweredOn}
+use Rattle.chip.specs.PowerOn.{freshChip, poweredOn}
+use Rattle.chip.specs.Valid.{Nibbles, Valid}
+use Rattle.chip.proofs.ValidLaws.{freshChip-valid}
 use Rattle.driver.specs.declared.Answer.{Answer}
-use Rattle.driver.specs.Refusals.{Does, fitted, left}
-use Rattle.state.specs.Record.{recordOf, tailOf}
+use Rattle.driver.specs.Refusals.{Does, left}
+use Rattle.state.specs.Record.{recordValid}
 use Rattle.state.specs.Answers.{writtenOver}
-use Rattle.host.specs.Host.{refusedCode, hostCode, whereOn, powerOnRecord, powerOnAnswer, powerOnReturns, powerOnBytes}
-use Rattle.host.proofs.CodesLaws.{Small, refused-held, answer-held, place-within, fitted-small}
+use Rattle.state.proofs.TripLaws.{valid-has}
+use Rattle.state.proofs.ChipLaws.{chip-valid}
+use Rattle.host.specs.Host.{refusedCode, hostCode, whereOn, recordFitted, powerOnRecord, powerOnAnswer, powerOnReturns, powerOnBytes}
+use Rattle.host.proofs.CodesLaws.{Small, refused-held, answer-held, place-within}
 
 -- what the driver does is what the call does
 module _ {due : Answer} {stream before after : List ℕ} {r : Answer} (does : Does due stream before r after) where
@@ -37,26 +43,38 @@ abbrev placeOf : Start → ℕ
 placeOf start.On = 0
 placeOf (start.Refused why) = refusalPlace why
 
--- Power-on is refused at a low place, and the chip that it hands out has 32 values for its memory.
+-- Power-on is refused at a low place, and the chip that it hands out is valid, refused or not.
 record Started (powered : PoweredOn) : Type 0 where
   place : placeOf (powered .answer) ≤ 128
-  size : length (powered .chip .port .memory) ≡ 32
+  valid : Valid (powered .chip)
+
+nibbles-from : (memory : List ℕ) → ((k : ℕ) → k < length memory → getD memory k 0 ≤ 15) → Nibbles memory
+nibbles-from [] low = tt
+nibbles-from (nibble ∷ memory) low =
+    let first = low 0 (omega arith) in
+    (omega (arith, first), nibbles-from memory (λ k less. low (suc k) (omega arith)))
+
+fresh-valid : (memory : List ℕ) → length memory ≡ 32 → length memory ≤ lowest (ltb 15) memory → Valid (freshChip memory)
+fresh-valid memory size low = freshChip-valid memory size (nibbles-from memory (none-above 15 memory low))
 
 started : (memory : List ℕ) → Started (poweredOn memory)
 unfolding poweredOn
 started memory =
+    let empty : Valid (freshChip (replicate 32 0)) = fresh-valid (replicate 32 0) refl (omega arith) in
     by-cases Started (eqb (length memory) 32)
-    (λ e. let long = eqb-true (length memory) 32 e in
-    either Started (somewhere (ltb 15) memory)
-    (record { place = omega (arith, long, place-within (ltb 15) memory); size = refl })
-    (record { place = omega arith; size = long }))
-    (λ e. record { place = omega arith; size = refl })
+    (λ long. let size = eqb-true (length memory) 32 long in
+    by-cases Started (somewhere (ltb 15) memory)
+    (λ above. record { place = omega (arith, size, place-within (ltb 15) memory); valid = empty })
+    (λ low. record { place = omega arith; valid = fresh-valid memory size (ltb-false _ _ low) }))
+    (λ other. record { place = omega arith; valid = empty })
 
-record-size : (memory : List ℕ) → length (powerOnRecord memory) ≡ 64
-unfolding powerOnRecord recordOf tailOf
-record-size memory =
-    let chip = poweredOn memory .chip in
-    length-append (chip .port .memory) (tailOf chip) ∙ ap (λ (n : ℕ). n + 32) (started memory .size)
+-- so what is written is a valid record, and its 64 bytes
+pub power-on-valid : (memory : List ℕ) → recordValid (powerOnRecord memory) ≡ true
+unfolding powerOnRecord
+power-on-valid memory = chip-valid (poweredOn memory .chip) (started memory .valid)
+
+pub power-on-size : (memory : List ℕ) → length (powerOnRecord memory) ≡ 64
+power-on-size memory = valid-has (powerOnRecord memory) (power-on-valid memory) .long
 
 where-small : (answer : Start) (then : Answer) → placeOf answer ≤ 128 → Small then → Small (whereOn answer then)
 where-small start.On then low small = small
@@ -66,8 +84,8 @@ where-small (start.Refused why) then low small = low
 pub power-on-small : (memory : List ℕ) (room : ℕ) → Small (powerOnAnswer memory room)
 unfolding powerOnAnswer
 power-on-small memory room =
-    where-small (poweredOn memory .answer) (fitted (powerOnRecord memory) room) (started memory .place)
-    (fitted-small (powerOnRecord memory) room (omega (arith, record-size memory)))
+    where-small (poweredOn memory .answer) (recordFitted room) (started memory .place)
+    (either Small (ltb room 64) (omega arith) (omega arith))
 
 module _ (memory bytes : List ℕ) (powered : PoweredOn) (e : powered ≡ poweredOn memory) where
   answered : powered .answer ≡ poweredOn memory .answer
@@ -77,9 +95,10 @@ module _ (memory bytes : List ℕ) (powered : PoweredOn) (e : powered ≡ powere
   power-on-held why r = refused-held why (rw (sym answered ∙ r) at (started memory .place))
 
   due : (answer : Start) → powered .answer ≡ answer
-      → powerOnAnswer memory (length bytes) ≡ whereOn answer (fitted (powerOnRecord memory) (length bytes))
+      → powerOnAnswer memory (length bytes) ≡ whereOn answer (recordFitted (length bytes))
   unfolding powerOnAnswer
-  due answer r = ap (λ (a : Start). whereOn a (fitted (powerOnRecord memory) (length bytes))) (sym answered ∙ r)
+  due answer r =
+      ap (λ (a : Start). whereOn a (recordFitted (length bytes))) (sym answered ∙ r)
 
   pub power-on-refused : (why : Refusal) → powered .answer ≡ start.Refused why
       → (refusedCode why ≡ powerOnReturns memory bytes) × (bytes ≡ powerOnBytes memory bytes)
@@ -89,10 +108,7 @@ module _ (memory bytes : List ℕ) (powered : PoweredOn) (e : powered ≡ powere
   pub power-on-short : powered .answer ≡ start.On → length bytes < 64
       → (refusedCode OutputShort ≡ powerOnReturns memory bytes) × (bytes ≡ powerOnBytes memory bytes)
   unfolding powerOnReturns powerOnBytes hostCode
-  power-on-short r h =
-      let d = due start.On r in
-      let short = lt-ltb (length bytes) (length (powerOnRecord memory)) (omega (arith, record-size memory)) in
-      (simp (d, short), simp (d, short))
+  power-on-short r h = let d = due start.On r in (simp (d, lt-ltb _ _ h), simp (d, lt-ltb _ _ h))
 
   pub power-on-done : (after : List ℕ) → powered .answer ≡ start.On → 64 ≤ length bytes
       → after ≡ writtenOver (powered .chip) bytes
@@ -100,5 +116,4 @@ module _ (memory bytes : List ℕ) (powered : PoweredOn) (e : powered ≡ powere
   unfolding powerOnReturns powerOnBytes powerOnRecord writtenOver hostCode
   power-on-done after r h w =
       let d = due start.On r in
-      let room = le-ltb (length bytes) (length (powerOnRecord memory)) (omega (arith, record-size memory)) in
-      (simp (d, room) (sym (record-size memory)), w ∙ simp (e, le-ltb (length bytes) 64 h, d, room))
+      (simp (d, le-ltb _ _ h), w ∙ simp (e, le-ltb _ _ h, d))
