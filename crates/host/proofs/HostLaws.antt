@@ -76,16 +76,10 @@ power-on-valid memory = chip-valid (poweredOn memory .chip) (started memory .val
 pub power-on-size : (memory : List ℕ) → length (powerOnRecord memory) ≡ 64
 power-on-size memory = valid-has (powerOnRecord memory) (power-on-valid memory) .long
 
-where-small : (answer : Start) (then : Answer) → placeOf answer ≤ 128 → Small then → Small (whereOn answer then)
-where-small start.On then low small = small
-where-small (start.Refused why) then low small = low
-
--- so the code of every answer of power-on tells, too
-pub power-on-small : (memory : List ℕ) (room : ℕ) → Small (powerOnAnswer memory room)
+power-on-due : (memory : List ℕ) (room : ℕ)
+    → powerOnAnswer memory room ≡ whereOn (poweredOn memory .answer) (recordFitted room)
 unfolding powerOnAnswer
-power-on-small memory room =
-    where-small (poweredOn memory .answer) (recordFitted room) (started memory .place)
-    (either Small (ltb room 64) (omega arith) (omega arith))
+power-on-due memory room = refl
 
 module _ (memory bytes : List ℕ) (powered : PoweredOn) (e : powered ≡ poweredOn memory) where
   answered : powered .answer ≡ poweredOn memory .answer
@@ -96,9 +90,8 @@ module _ (memory bytes : List ℕ) (powered : PoweredOn) (e : powered ≡ powere
 
   due : (answer : Start) → powered .answer ≡ answer
       → powerOnAnswer memory (length bytes) ≡ whereOn answer (recordFitted (length bytes))
-  unfolding powerOnAnswer
   due answer r =
-      ap (λ (a : Start). whereOn a (recordFitted (length bytes))) (sym answered ∙ r)
+      power-on-due memory (length bytes) ∙ ap (λ (a : Start). whereOn a (recordFitted (length bytes))) (sym answered ∙ r)
 
   pub power-on-refused : (why : Refusal) → powered .answer ≡ start.Refused why
       → (refusedCode why ≡ powerOnReturns memory bytes) × (bytes ≡ powerOnBytes memory bytes)
@@ -117,3 +110,14 @@ module _ (memory bytes : List ℕ) (powered : PoweredOn) (e : powered ≡ powere
   power-on-done after r h w =
       let d = due start.On r in
       (simp (d, le-ltb _ _ h), w ∙ simp (e, le-ltb _ _ h, d))
+
+where-small : (answer : Start) (then : Answer) → placeOf answer ≤ 128 → Small then → Small (whereOn answer then)
+where-small start.On then low small = small
+where-small (start.Refused why) then low small = low
+
+-- the code of every answer of power-on tells, too
+pub power-on-small : (memory : List ℕ) (room : ℕ) → Small (powerOnAnswer memory room)
+power-on-small memory room =
+    rw (power-on-due memory room)
+    (where-small (poweredOn memory .answer) (recordFitted room) (started memory .place)
+    (either Small (ltb room 64) (omega arith) (omega arith)))
