@@ -2,8 +2,10 @@
 -- it leaves, for every list of bytes. Assumes nothing.
 use Prim.Native.Nat.{ℕ, _+_, _*_}
 use mathlib.Core.List.{List}
+use lib.Dec.{ltb}
 use lib.ListN.{length}
 use Rattle.ground.specs.declared.Refusal.{Refusal}
+use Rattle.ground.specs.declared.Refusal.the-variants.{OutputShort}
 use Rattle.ground.specs.Refusals.{refusalNumber, refusalPlace}
 use Rattle.chip.specs.declared.Start.{Start}
 use Rattle.chip.specs.declared.Start.the-variants as start
@@ -11,7 +13,7 @@ use Rattle.chip.specs.PowerOn.{poweredOn}
 use Rattle.driver.specs.declared.Answer.{Answer}
 use Rattle.driver.specs.declared.Answer.the-variants.{Written, Refused}
 use Rattle.driver.specs.Streams.{writeStream, readStream, commandStream, decoded}
-use Rattle.driver.specs.Refusals.{fitted, left, writeAnswer, readAnswer, commandAnswer, decodeAnswer}
+use Rattle.driver.specs.Refusals.{refusedIf, left, writeAnswer, readAnswer, commandAnswer, decodeAnswer}
 use Rattle.state.specs.Record.{recordOf}
 
 -- A refusal as one number: 2^31, which no count of bytes reaches, then the place above the lowest byte, and there the number.
@@ -23,16 +25,21 @@ unfoldable pub hostCode : Answer → ℕ
 hostCode (Written count) = count
 hostCode (Refused why) = refusedCode why
 
--- Power-on as the chip answers it, 29 and then 23 with its place; where the chip is on, its record has to fit, 25 last.
+-- Power-on as the chip answers it, 29 and then 23 with its place; only where the chip is on, what comes then.
 abbrev pub whereOn : Start → Answer → Answer
 whereOn start.On then = then
 whereOn (start.Refused why) then = Refused why
 
+-- 25, last of all: the 64 bytes of a record have to fit.
+abbrev pub recordFitted : ℕ → Answer
+recordFitted room = refusedIf (ltb room 64) OutputShort (Written 64)
+
+-- Power-on: the record of the chip handed out, or why there is none.
 unfoldable pub powerOnRecord : List ℕ → List ℕ
 powerOnRecord memory = recordOf (poweredOn memory .chip)
 
 unfoldable pub powerOnAnswer : List ℕ → ℕ → Answer
-powerOnAnswer memory room = whereOn (poweredOn memory .answer) (fitted (powerOnRecord memory) room)
+powerOnAnswer memory room = whereOn (poweredOn memory .answer) (recordFitted room)
 
 unfoldable pub powerOnReturns : List ℕ → List ℕ → ℕ
 powerOnReturns memory bytes = hostCode (powerOnAnswer memory (length bytes))

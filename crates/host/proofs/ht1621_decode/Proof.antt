@@ -1,7 +1,8 @@
 -- `host::ht1621_decode` meets its contract: what the driver answers is held, and told. Assumes nothing.
 use lib.ListN.{length}
 use Rattle.host.specs.Host.{decodeReturns, decodeBytes}
-use Rattle.host.proofs.HostLaws.{decode-held, does-held, does-told}
+use Rattle.host.proofs.CodesLaws.{decode-small}
+use Rattle.host.proofs.HostLaws.{does-held, does-told}
 use borrow.Author.Needs.{needs}
 use Rattle.host.proofs.ht1621_decode.Statement.{statement}
 use Rattle.host.proofs.ht1621_decode.Tie as tie
@@ -13,7 +14,7 @@ code-of-requires : tie.Need-code-of-requires
 code-of-requires c κs =
     let called = c .before .before in
     let start = called .before .before .before .before in
-    does-held (called .decode .ensures) (decode-held (start .args .noted .now) (length (start .args .out .now)))
+    does-held (called .decode .ensures) (decode-small (start .args .noted .now) (length (start .args .out .now)))
 
 same-length : tie.Need-same-length
 same-length c = search needs

@@ -2,7 +2,8 @@
 use mathlib.Core.Path.{_∙_}
 use native.Mathlib.Omega.{arith}
 use Rattle.ground.specs.declared.Refusal.the-variants.{OutputShort}
-use Rattle.host.proofs.HostLaws.{refused-held, power-on-held, power-on-refused, power-on-short, power-on-done}
+use Rattle.host.proofs.CodesLaws.{refused-held}
+use Rattle.host.proofs.HostLaws.{power-on-held, power-on-refused, power-on-short, power-on-done}
 use borrow.Author.Needs.{needs}
 use Rattle.host.proofs.ht1621_power_on.Statement.{statement}
 use Rattle.host.proofs.ht1621_power_on.Tie as tie

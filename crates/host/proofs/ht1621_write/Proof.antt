@@ -1,7 +1,8 @@
 -- `host::ht1621_write` meets its contract: what the driver answers is held, and told. Assumes nothing.
 use lib.ListN.{length}
 use Rattle.host.specs.Host.{writeReturns, writeBytes}
-use Rattle.host.proofs.HostLaws.{write-held, does-held, does-told}
+use Rattle.host.proofs.CodesLaws.{write-small}
+use Rattle.host.proofs.HostLaws.{does-held, does-told}
 use borrow.Author.Needs.{needs}
 use Rattle.host.proofs.ht1621_write.Statement.{statement}
 use Rattle.host.proofs.ht1621_write.Tie as tie
@@ -13,7 +14,7 @@ code-of-requires : tie.Need-code-of-requires
 code-of-requires c κs =
     let called = c .before .before in
     let start = called .before .before .before .before in
-    does-held (called .write .ensures) (write-held (start .args .first) (start .args .nibbles .now) (length (start .args .out .now)))
+    does-held (called .write .ensures) (write-small (start .args .first) (start .args .nibbles .now) (length (start .args .out .now)))
 
 same-length : tie.Need-same-length
 same-length c = search needs
