@@ -1,0 +1,3 @@
+pub mod ChipLaid
+pub mod InPlace
+pub mod Laid

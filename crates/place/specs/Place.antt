@@ -1,0 +1,10 @@
+-- 01 "State record and simulator": what stepping a chip where it stands returns and leaves. Assumes nothing.
+use Prim.Native.Nat.{ℕ, _+_, _*_}
+use Rattle.frames.specs.declared.Answer.{Answer}
+use Rattle.frames.specs.Answers.{answerNumber, firstDetail, secondDetail}
+use Rattle.chip.specs.declared.Chip.{Chip}
+use Rattle.chip.specs.Chip.{stepped}
+
+-- An answer with its two details.
+unfoldable pub answerCode : Answer → ℕ
+answerCode answer = answerNumber answer + 256 * firstDetail answer + 65536 * secondDetail answer
