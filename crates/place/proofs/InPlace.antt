@@ -36,49 +36,8 @@ use denote.Triple.Walked.{says, Stays, stay-ref, stay-none, walkOf, AllGo, goes-
 use denote.Exit.{yes}
 use Rattle.chip.specs.declared.Chip.{Chip}
 use Rattle.place.specs.declared.Numbered.{Numbered}
+use Rattle.place.proofs.Contracts.{Ensured, lent-signature, lent-ended, lent-clauses, valued-signature, valued-ended, valued-clauses}
 use Rattle.place.proofs.Laid.{Row, asRow, Laid, pairType, pairVal, Paired}
-
--- what is ensured of the chip h and the sample s: the chip after it, and the number
-abbrev pub Ensured : Type 1
-Ensured = Chip → ℕ → Chip → ℕ → Type 0
-
-module _ {τ : Ty} (c : Row Chip τ) where
-  abbrev pub lent-signature : Signature
-  lent-signature = record {
-    lifetimes = 1;
-    outlives = [];
-    params = RefMutOf (0 ∷ []) tt (plain (λ _. asRow c)) (λ _. tt) ∷ plain (λ _. u8) ∷ [];
-    result = plain (λ _. u32);
-  }
-
-  abbrev pub lent-ended : Ended
-  lent-ended = record { signature = lent-signature; kept = (yes, (yes, tt)) }
-
-  abbrev pub lent-clauses : Ensured → {M : Type 1} (𝓤 : URA M) → Clauses 𝓤 lent-ended
-  lent-clauses Q 𝓤 κs a = record {
-    ghost = Unit {0};
-    requires = λ _. emp 𝓤;
-    ensures = λ _ r end. fact 𝓤 (Q (now (a .0)) (a .1 .0) (now (end .0)) r);
-  }
-
-  module _ {σ : Ty} (p : Row Numbered σ) where
-    abbrev pub valued-signature : Signature
-    valued-signature = record {
-      lifetimes = 0;
-      outlives = [];
-      params = plain (λ _. asRow c) ∷ plain (λ _. u8) ∷ [];
-      result = plain (λ _. asRow p);
-    }
-
-    abbrev pub valued-ended : Ended
-    valued-ended = record { signature = valued-signature; kept = (yes, (yes, tt)) }
-
-    abbrev pub valued-clauses : Ensured → {M : Type 1} (𝓤 : URA M) → Clauses 𝓤 valued-ended
-    valued-clauses Q 𝓤 κs a = record {
-      ghost = Unit {0};
-      requires = λ _. emp 𝓤;
-      ensures = λ _ r end. fact 𝓤 (Q (a .0) (a .1 .0) (r .chip) (r .number));
-    }
 
 -- the MIR, with the name of the function called, the two types, and the chip's as a reference says it
 abbrev pub code : Name → Ty → Ty → Ty → Fn
@@ -94,7 +53,7 @@ code g τ σ ρ = record {
 }
 
 module _ (τ ρ : Ty) (ν : Sym) (c : Row Chip τ) (p : Row Numbered (pairType ν τ)) (val : Chip → Val) (lc : Laid c val) (lp : Laid p (pairVal val))
-    (pd : Paired c p val) (Q : Ensured) (#g : Name) where
+    (pd : Paired c p val) (Q Q′ : Ensured) (so : (h : Chip) (s : ℕ) (z : Chip) (r : ℕ) → Q h s z r → Q′ h s z r) (#g : Name) where
   abbrev R : RattleType
   R = asRow c
 
@@ -126,7 +85,7 @@ module _ (τ ρ : Ty) (ν : Sym) (c : Row Chip τ) (p : Row Numbered (pairType �
       at = (vptr b o ∷ [], (vint w8 n ∷ [], tt))
 
       abbrev Post : Val → SProp 𝓤
-      Post = walkOf 𝓤 H A (lent-ended c) stayed (lent-clauses c Q 𝓤) .post (((κ, tt), (q, tt), tt, x, at), tt)
+      Post = walkOf 𝓤 H A (lent-ended c) stayed (lent-clauses c Q′ 𝓤) .post (((κ, tt), (q, tt), tt, x, at), tt)
 
       -- what the triple of the function called binds outside
       abbrev to-g : G .Ghost
@@ -140,7 +99,7 @@ module _ (τ ρ : Ty) (ν : Sym) (c : Row Chip τ) (p : Row Numbered (pairType �
           → ent 𝓤 (sep 𝓤 (A .obs γ (R .coded .code (r .chip))) (sep 𝓤 (A .bor κ (Body (mem R) b o γ)) (A .lft κ q))) (Post (vint w32 (r .number)))
       exits r fits fits′ e =
           qed W (‵ (fobs γ (R .coded .code (r .chip))) ∷ ‵ (fbor κ (Body (mem R) b o γ)) ∷ ‵ (flft κ q) ∷ []) ∵
-          suffices ! _ (ends-at 𝓤 H A (lent-ended c) stayed (lent-clauses c Q 𝓤) W (((κ, tt), (q, tt), tt, x, at), tt) (vint w32 (r .number)) (r .number) (r .chip, (tt, tt)) (tt, (tt, tt))) $ says ! e $ nothing ! $ move ! (3 ∷ 0 ∷ []) $ join ! $
+          suffices ! _ (ends-at 𝓤 H A (lent-ended c) stayed (lent-clauses c Q′ 𝓤) W (((κ, tt), (q, tt), tt, x, at), tt) (vint w32 (r .number)) (r .number) (r .chip, (tt, tt)) (tt, (tt, tt))) $ says ! (so h n (r .chip) (r .number) e) $ nothing ! $ move ! (3 ∷ 0 ∷ []) $ join ! $
           frame ! $ feqI ! (List Val) (vptr b o ∷ []) (vptr b o ∷ []) refl $ fjoin3 ! $ nothing ! $ owned ! u8 (Is u8) (uint-makes 𝓤 H A W w8) n _ (refl, fits) $ fjoin ! $ move ! (1 ∷ 0 ∷ []) $ fjoin ! $
           owned ! u32 (Is u32) (uint-makes 𝓤 H A W w32) (r .number) _ (refl, fits′) $ move ! (1 ∷ 0 ∷ []) $ done !
 
@@ -173,12 +132,12 @@ module _ (τ ρ : Ty) (ν : Sym) (c : Row Chip τ) (p : Row Numbered (pairType �
             keep ! (0 ∷ 1 ∷ 2 ∷ []) $ by ! (exits r (gn .1) (pd .apart r (v ∷ []) is .1) e)))))))))))))
 
     module _ (W : Given 𝓤 H A) where
-      walks : (C : Calls 𝓤 H) (Λ : Loops 𝓤 H) → FmC 𝓤 H (W .laws) C → Triple 𝓤 (C #g) G → Walks 𝓤 H A (lent-ended c) stayed (WpFn 𝓤 H C Λ function) (lent-clauses c Q 𝓤)
-      walks C Λ fm known = walked 𝓤 H A (lent-ended c) stayed (lent-clauses c Q 𝓤) (WpFn 𝓤 H C Λ function) (λ κs. (ptr-vals, (uint-vals w8, tt))) (λ κs. (mut-tells (named 0) (κs .0) R, (uint-tells w8, tt)))
+      walks : (C : Calls 𝓤 H) (Λ : Loops 𝓤 H) → FmC 𝓤 H (W .laws) C → Triple 𝓤 (C #g) G → Walks 𝓤 H A (lent-ended c) stayed (WpFn 𝓤 H C Λ function) (lent-clauses c Q′ 𝓤)
+      walks C Λ fm known = walked 𝓤 H A (lent-ended c) stayed (lent-clauses c Q′ 𝓤) (WpFn 𝓤 H C Λ function) (λ κs. (ptr-vals, (uint-vals w8, tt))) (λ κs. (mut-tells (named 0) (κs .0) R, (uint-tells w8, tt)))
           (λ κs qs bounds a _ _. via 𝓤 _ (fst∗ 𝓤 _ (emp 𝓤)) (walk W (κs .0) (qs .0) (a .0 .ptr .0) (a .0 .ptr .1) (a .0 .name) (a .0 .now) (a .1 .0) C Λ fm known))
 
       goes : AllGo 𝓤 H A W 1 (lent-signature c .params) (lent-ended c .kept) stayed
       goes = (goes-ref 𝓤 H A W 1 0 tt (plain (λ _. R)), (goes-none 𝓤 H A W 1 (λ _. u8) yes (λ κs x f. refl), tt))
 
-      pub in-place : (𝓣 : Tables 𝓤 H) → Triple 𝓤 (𝓣 .C #g) G → Meets 𝓤 H A (lent-signature c) (WpFn 𝓤 H (𝓣 .C) (𝓣 .Λ) function) (closing 𝓤 H A (lent-ended c) (lent-clauses c Q 𝓤))
-      in-place 𝓣 known = walk-meets 𝓤 H A (lent-ended c) stayed W goes (lent-clauses c Q 𝓤) (WpFn 𝓤 H (𝓣 .C) (𝓣 .Λ) function) (WpFn-mono 𝓤 H (W .laws) 𝓣 function) (walks (𝓣 .C) (𝓣 .Λ) (fmOf 𝓤 H (W .laws) 𝓣) known)
+      pub in-place : (𝓣 : Tables 𝓤 H) → Triple 𝓤 (𝓣 .C #g) G → Meets 𝓤 H A (lent-signature c) (WpFn 𝓤 H (𝓣 .C) (𝓣 .Λ) function) (closing 𝓤 H A (lent-ended c) (lent-clauses c Q′ 𝓤))
+      in-place 𝓣 known = walk-meets 𝓤 H A (lent-ended c) stayed W goes (lent-clauses c Q′ 𝓤) (WpFn 𝓤 H (𝓣 .C) (𝓣 .Λ) function) (WpFn-mono 𝓤 H (W .laws) 𝓣 function) (walks (𝓣 .C) (𝓣 .Λ) (fmOf 𝓤 H (W .laws) 𝓣) known)

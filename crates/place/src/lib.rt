@@ -1,7 +1,7 @@
 // The chip stepped where it stands. Assumes nothing.
 ghost use mathlib.Core.Path.{_≡_};
 ghost use Rattle.chip.specs.Chip.{stepped};
-ghost use Rattle.place.specs.Place.{answerCode};
+ghost use Rattle.place.specs.Place.{answerCode, numbered};
 use chip::Chip;
 use frames::Answer;
 
@@ -23,13 +23,16 @@ fn code_of(answer: Answer) -> u32
 
 // A sample on a chip by value.
 fn with_number(chip: Chip, sample: u8) -> Numbered
-    ensures { λ r. ⌜ (r .chip ≡ stepped chip sample .chip) × (r .number ≡ answerCode (stepped chip sample .answer)) ⌝ }
+    ensures { λ r. ⌜ r ≡ numbered chip sample ⌝ }
 {
     let done = chip.step(sample);
     let answer = done.answer;
     let number = code_of(answer);
     let next = done.chip;
-    Numbered { chip: next, number: number }
+    Numbered {
+        chip: next,
+        number: number,
+    }
 }
 
 // A sample on a chip that stands where the caller keeps it: the chip after it stands there, and its answer is returned
@@ -41,4 +44,16 @@ pub fn step_in_place(chip: &mut Chip, sample: u8) -> u32
     let done = with_number(*chip, sample);
     *chip = done.chip;
     done.number
+}
+
+// A sample on a chip by value, which is lent to `step_in_place` and handed back: for whoever keeps no chip of its own.
+pub fn via_place(chip: Chip, sample: u8) -> Numbered
+    ensures { λ r. ⌜ r ≡ numbered chip sample ⌝ }
+{
+    let mut standing = chip;
+    let number = step_in_place(&mut standing, sample);
+    Numbered {
+        chip: standing,
+        number: number,
+    }
 }

@@ -14,8 +14,10 @@ code-of-requires c κs = search needs
 
 returns : tie.Need-returns
 returns c =
-    let done = c .before .before .step .ensures in
-    (ap (λ (x : Stepped). x .chip) done, c .before .code-of .ensures ∙ ap (λ (x : Stepped). answerCode (x .answer)) done)
+    let done = c .before .before .step .ensures in λ i. record {
+      chip = done i .chip;
+      number = (c .before .code-of .ensures ∙ ap (λ (x : Stepped). answerCode (x .answer)) done) i;
+    }
 
 pub with-number-spec : {M : Type 1} → statement M
 with-number-spec = tie.close (tie.spec step-requires code-of-requires returns)
