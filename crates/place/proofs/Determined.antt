@@ -32,13 +32,8 @@ pub step-in-place-determined : {M : Type 1} (𝓤 : URA M) (H : Heap 𝓤) (A : 
     (step-in-place.clauses 𝓤 H A at-mem run κs args .ensures tt y end'))
     (fact 𝓤 ((x ≡ y) × (now (end .0) ≡ now (end' .0))))
 step-in-place-determined 𝓤 H A at-mem run κs args x y end end' =
-    let due = stepped (now (args .0)) (args .1 .0) in
-    let first = (now (end .0) ≡ due .chip) × (x ≡ answerCode (due .answer)) in
-    let second = (now (end' .0) ≡ due .chip) × (y ≡ answerCode (due .answer)) in
-    fact-use 𝓤 (first × second)
-    (both-say 𝓤 H A first second (id⊢ 𝓤 (fact 𝓤 first)) (id⊢ 𝓤 (fact 𝓤 second)))
-    (λ both. factI 𝓤 ((x ≡ y) × (now (end .0) ≡ now (end' .0))) (conj 𝓤 (fact 𝓤 first) (fact 𝓤 second))
-    (both .0 .1 ∙ sym (both .1 .1), both .0 .0 ∙ sym (both .1 .0)))
+    fact-use 𝓤 _ (both-say 𝓤 H A _ _ (id⊢ 𝓤 _) (id⊢ 𝓤 _))
+    (λ both. factI 𝓤 _ _ (both .0 .1 ∙ sym (both .1 .1), both .0 .0 ∙ sym (both .1 .0)))
 
 pub via-place-determined : Determined 0 via-place-kinds.ps via-place-kinds.r via-place-reads.Post
 via-place-determined κs args x y end end' p q = p ∙ sym q
