@@ -3,17 +3,17 @@
 // the listing refuses.
 use std::{env, fs};
 
-struct Random(u64);
+pub struct Random(pub u64);
 
 impl Random {
-    fn next(&mut self) -> u64 {
+    pub fn next(&mut self) -> u64 {
         self.0 ^= self.0 << 13;
         self.0 ^= self.0 >> 7;
         self.0 ^= self.0 << 17;
         self.0
     }
 
-    fn below(&mut self, n: u64) -> u64 {
+    pub fn below(&mut self, n: u64) -> u64 {
         self.next() % n
     }
 }
@@ -25,7 +25,7 @@ fn send(samples: &mut Vec<u8>, bit: u64) {
 }
 
 // A frame: its ID and then bits, with reads among them now and then.
-fn frame(random: &mut Random) -> Vec<u8> {
+pub fn frame(random: &mut Random) -> Vec<u8> {
     let mut samples = vec![15, 14];
     let id = [4, 5, 6, 4, 5, 6, 4, 5, 6, random.below(8)][random.below(10) as usize];
     for i in (0..3).rev() {

@@ -23,8 +23,14 @@ use Rattle.frames.specs.declared.Framed.{Framed}
 use Rattle.frames.specs.declared.Levels.{Levels}
 use Rattle.frames.specs.Samples.{clocked, rose, edge}
 use Rattle.frames.specs.Frames.{more, turned, decodedAnswer, identified, identTaken, readToTaken, writeToTaken, nibbleTaken, commandAnswer, commandTaken, taken, readOffered, offered, closed, frame}
-use Rattle.frames.specs.Answers.{act, unfinished}
+use Rattle.frames.specs.Answers.{act, unfinished, lineNumber}
 use Rattle.frames.specs.Valid.{FrameValid, ActValid}
+
+-- what the chip does to DATA is one of three
+pub line-small : (line : Line) → lineNumber line ≤ 2
+line-small Released = omega arith
+line-small (Driven true) = omega arith
+line-small (Driven false) = omega arith
 
 -- a frame that is open and valid, and stores only nibbles
 abbrev Kept : Framed → Type 0

@@ -1,9 +1,11 @@
 -- 01 "What a sample is answered": the numbers, the details, and which bits count as unfinished. Assumes nothing.
-use Prim.Native.Nat.{ℕ}
+use Prim.Native.Nat.{ℕ, _+_}
 use Rattle.ground.specs.Bits.{bitNumber}
 use Rattle.ground.specs.Refusals.{refusalNumber}
 use Rattle.frames.specs.declared.Phase.{Phase}
 use Rattle.frames.specs.declared.Phase.the-variants.{Idle, Ident, ReadTo, WriteTo, Reading, Writing, Command, Dead}
+use Rattle.frames.specs.declared.Line.{Line}
+use Rattle.frames.specs.declared.Line.the-variants.{Released, Driven}
 use Rattle.frames.specs.declared.Answer.{Answer}
 use Rattle.frames.specs.declared.Answer.the-variants.{Nothing, Opened, Closed, Dropped, Taken, Stored, Obeyed, Passed, Offered, Stray, Unknown, Clash, Refused}
 use Rattle.frames.specs.declared.Act.{Act}
@@ -84,3 +86,8 @@ unfinished (Reading at position) = 0
 unfinished (Writing count value at position) = count
 unfinished (Command count value) = count
 unfinished Dead = 0
+
+-- 01 "State record and simulator", byte 39: DATA released, low or high.
+abbrev pub lineNumber : Line → ℕ
+lineNumber Released = 0
+lineNumber (Driven bit) = 1 + bitNumber bit

@@ -4,7 +4,7 @@ ghost use mathlib.Core.Path.{_≡_};
 ghost use Rattle.ground.specs.Bits.{bitAt};
 ghost use Rattle.frames.specs.Samples.{levels, rose, clocked, edge};
 ghost use Rattle.frames.specs.Frames.{more, turned, reached, next, address, stray, collected, identified, identTaken, readToTaken, writeToTaken, nibbleTaken, commandAnswer, commandTaken, taken, readOffered, writeOffered, offered, closed, frame};
-ghost use Rattle.frames.specs.Answers.{act, unfinished};
+ghost use Rattle.frames.specs.Answers.{act, unfinished, lineNumber};
 use commands::Decoded;
 use ground::Refusal;
 
@@ -43,6 +43,18 @@ pub enum Phase {
 pub enum Line {
     Released,
     Driven(bool),
+}
+
+impl Line {
+    // Its number in the state record and among the pins: 0 released, 1 low, 2 high.
+    pub fn number(self) -> u8
+        ensures { λ r. ⌜ r ≡ lineNumber self ⌝ }
+    {
+        match self {
+            Line::Released => 0,
+            Line::Driven(bit) => 1 + (bit as u8),
+        }
+    }
 }
 
 // What a sample is answered.
@@ -192,7 +204,7 @@ fn bit_of(position: u8, nibble: u8) -> bool
 
 impl Phase {
     // How many bits a closing sample would drop.
-    fn unfinished(self) -> u8
+    pub fn unfinished(self) -> u8
         ensures { λ r. ⌜ r ≡ unfinished self ⌝ }
     {
         match self {

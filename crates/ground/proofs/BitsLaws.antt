@@ -1,12 +1,18 @@
 -- Laws of bits. Assumes nothing.
 use mathlib.Core.Path.{_≡_, refl}
-use mathlib.Core.Bool.{false}
+use mathlib.Core.Bool.{Bool, true, false}
 use Prim.Native.Nat.{ℕ, zero, suc, _/_, _%_, _^_, _≤_, _<_}
 use native.Mathlib.Nat.{div-eq-of-lt, lt-of-lt-of-le, mod-lt}
 use native.Mathlib.Omega.{arith}
 use lib.Dec.{eqb}
 use lib.Pow.{pow-mono}
+use mir.Val.{boolByte}
 use Rattle.ground.specs.Bits.{bitNumber, bitAt}
+
+-- a bit as a byte
+pub boolByte-small : (bit : Bool) → boolByte bit ≤ 1
+boolByte-small true = omega arith
+boolByte-small false = omega arith
 
 -- a byte has no bit above the seventh
 pub bitAt-past : (i n : ℕ) → n < 256 → 8 ≤ i → bitAt i n ≡ false

@@ -5,11 +5,8 @@ use mathlib.Core.List.{List, _++_, append-nil}
 use Prim.Native.Nat.{ℕ, _+_, _≤_, _<_}
 use native.Mathlib.Omega.{arith}
 use lib.ListN.{length, drop, drop-of-length-le}
-use mir.Val.{boolByte}
 use borrow.Author.Tests.{lt-ltb, le-ltb}
 use Rattle.ground.specs.Written.{over}
-use Rattle.frames.specs.declared.Line.{Line}
-use Rattle.frames.specs.declared.Line.the-variants.{Released, Driven}
 use Rattle.chip.specs.declared.Chip.{Chip}
 use Rattle.chip.specs.declared.Pins.{Pins}
 use Rattle.chip.specs.Chip.{stepped, advanced}
@@ -20,21 +17,11 @@ use Rattle.place.specs.declared.Numbered.{Numbered}
 use Rattle.place.specs.Place.{numbered}
 use Rattle.state.specs.declared.Reading.{Reading}
 use Rattle.state.specs.declared.Verdict.the-variants as verdict
-use Rattle.state.specs.FrameCodes.{lineNumber}
 use Rattle.state.specs.Record.{recordValid, recordOf, chipOf}
 use Rattle.state.specs.Answers.{verdictNumber, malformed, readOf, writtenOver}
 use Rattle.state.proofs.TripLaws.{RecordHas, valid-has}
 use Rattle.state.proofs.ChipLaws.{valid-chip, chip-valid}
 use Rattle.simulator.specs.Simulator.{pinsCode, stepReturns, stepBytes, advanceReturns, advanceBytes, pinsReturns, pinsBytes}
-
-pub bit-small : (bit : Bool) → boolByte bit ≤ 1
-bit-small true = omega arith
-bit-small false = omega arith
-
-pub line-small : (line : Line) → lineNumber line ≤ 2
-line-small Released = omega arith
-line-small (Driven true) = omega arith
-line-small (Driven false) = omega arith
 
 -- ---- what was read tells whether the record is valid
 

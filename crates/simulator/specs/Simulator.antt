@@ -9,11 +9,11 @@ use Rattle.ground.specs.Bits.{bitNumber}
 use Rattle.ground.specs.declared.Refusal.the-variants.{SampleAbove, OutputShort, Malformed}
 use Rattle.ground.specs.Refusals.{refusalNumber}
 use Rattle.ground.specs.Written.{over}
+use Rattle.frames.specs.Answers.{lineNumber}
 use Rattle.chip.specs.declared.Pins.{Pins}
 use Rattle.chip.specs.Chip.{stepped, advanced}
 use Rattle.chip.specs.Pins.{pinsShown}
 use Rattle.place.specs.Place.{answerCode}
-use Rattle.state.specs.FrameCodes.{lineNumber}
 use Rattle.state.specs.Record.{recordValid, recordOf, chipOf}
 
 -- IRQ low, BZ high, its partner high, and byte 39.

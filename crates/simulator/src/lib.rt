@@ -5,10 +5,8 @@ ghost use Prim.Native.Nat.{_≤_};
 ghost use lib.ListN.{length};
 ghost use Rattle.ground.specs.Written.{over};
 ghost use Rattle.state.specs.Answers.{verdictNumber};
-ghost use Rattle.state.specs.FrameCodes.{lineNumber};
 ghost use Rattle.simulator.specs.Simulator.{pinsCode, stepReturns, stepBytes, advanceReturns, advanceBytes, pinsReturns, pinsBytes};
 use chip::Pins;
-use frames::Line;
 use ground::Refusal;
 use state::Verdict;
 
@@ -22,22 +20,12 @@ fn refused_by(verdict: Verdict) -> u32
     }
 }
 
-// DATA as byte 39 has it.
-fn line_number(line: Line) -> u32
-    ensures { λ r. ⌜ r ≡ lineNumber line ⌝ }
-{
-    match line {
-        Line::Released => 0,
-        Line::Driven(bit) => 1 + (bit as u32),
-    }
-}
-
 // The pins as one number.
 fn pins_code(pins: Pins) -> u32
     ensures { λ r. ⌜ r ≡ pinsCode pins ⌝ }
 {
     let line = pins.line;
-    let driven = line_number(line);
+    let driven = line.number() as u32;
     (pins.irq as u32) + 2 * (pins.bz as u32) + 4 * (pins.partner as u32) + 8 * driven
 }
 

@@ -28,13 +28,13 @@ use Rattle.frames.specs.declared.Line.{Line}
 use Rattle.frames.specs.declared.Line.the-variants.{Released, Driven}
 use Rattle.frames.specs.Samples.{levels}
 use Rattle.frames.specs.Frames.{address}
-use Rattle.frames.specs.Answers.{unfinished}
+use Rattle.frames.specs.Answers.{unfinished, lineNumber}
 use Rattle.state.specs.declared.SourceRead.the-variants.{From}
 use Rattle.state.specs.declared.BiasRead.the-variants.{Biased}
 use Rattle.state.specs.declared.CommonsRead.the-variants.{Has}
 use Rattle.state.specs.declared.PitchRead.the-variants.{Sounds}
 use Rattle.state.specs.declared.IrqSourceRead.the-variants.{Of}
-use Rattle.state.specs.FrameCodes.{linesNumber, phaseRead, isPhase, phaseIn, phaseNumber, valueOf, positionOf, lineRead, isLine, lineIn, lineNumber}
+use Rattle.state.specs.FrameCodes.{linesNumber, phaseRead, isPhase, phaseIn, phaseNumber, valueOf, positionOf, lineRead, isLine, lineIn}
 use Rattle.state.specs.Selections.{sourceRead, isSource, sourceIn, biasRead, isBias, biasIn, commonsRead, isCommons, commonsIn, pitchRead, isPitch, pitchIn, irqSourceRead, isIrqSource, irqSourceIn}
 
 -- ---- written and read

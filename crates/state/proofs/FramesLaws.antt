@@ -12,9 +12,9 @@ use Rattle.frames.specs.declared.Phase.the-variants.{Idle, Ident, ReadTo, Write
 use Rattle.frames.specs.declared.Line.{Line}
 use Rattle.frames.specs.declared.Line.the-variants.{Released, Driven}
 use Rattle.frames.specs.Frames.{address}
-use Rattle.frames.specs.Answers.{unfinished}
+use Rattle.frames.specs.Answers.{unfinished, lineNumber}
 use Rattle.frames.specs.Valid.{FrameValid}
-use Rattle.state.specs.FrameCodes.{phaseRead, isPhase, phaseIn, phaseNumber, valueOf, positionOf, lineRead, isLine, lineIn, lineNumber}
+use Rattle.state.specs.FrameCodes.{phaseRead, isPhase, phaseIn, phaseNumber, valueOf, positionOf, lineRead, isLine, lineIn}
 use Rattle.state.specs.Record.{mostBits, goesWithCs, bitsRight, restRight, frameRight}
 use Rattle.state.proofs.RangesLaws.{and-left, and-right, each-of-3, each-of-5, and-both}
 

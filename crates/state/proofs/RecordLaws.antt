@@ -11,7 +11,6 @@ use lib.Dec.{ltb, leb, eqb}
 use lib.ListN.{length, take, drop, getD, set, replicate, length-append, drop-of-length-le}
 use lib.Pow.{pow-pos}
 use lib.Seq.{paste, paste-suc, length-paste, drop-cons}
-use mir.Val.{boolByte}
 use borrow.Author.Tests.{ltb-true, ltb-false, lt-ltb, le-ltb, le-leb, lt-leb, eq-eqb, ne-eqb}
 use Rattle.ground.specs.Written.{over, first32}
 use Rattle.ground.proofs.WrittenLaws.{over-paste, over-over}
@@ -70,10 +69,6 @@ below-power value count = by (ltb value (2 ^ count)) refl
         div-lt-iff-lt-mul {k = 2 ^ count} {x = value} {y = 1} (pow-pos count) .0 (omega (arith, z)) in
         let no : ⊥ = omega (arith, ltb-false value (2 ^ count) e, one-mul (2 ^ count)) in
         absurd no)
-
-pub boolByte-small : (bit : Bool) → boolByte bit ≤ 1
-boolByte-small true = omega arith
-boolByte-small false = omega arith
 
 -- ---- a block put over a buffer: one byte more, the length, the whole of it, and one after another
 

@@ -80,7 +80,3 @@ isLine NoLine = false
 abbrev pub lineIn : LineRead → Line
 lineIn (Does line) = line
 lineIn NoLine = Released
-
-abbrev pub lineNumber : Line → ℕ
-lineNumber Released = 0
-lineNumber (Driven bit) = 1 + bitNumber bit

@@ -5,13 +5,12 @@ ghost use Prim.Native.Nat.{_+_, _*_, _/_, _%_, _≤_};
 ghost use lib.Dec.{eqb};
 ghost use lib.ListN.{length, getD};
 ghost use Rattle.ground.specs.Written.{over};
-ghost use Rattle.frames.specs.Answers.{unfinished};
 ghost use Rattle.commands.specs.Numbers.{biasNumber};
 ghost use Rattle.rules.specs.Numbers.{sourceNumber, pitchNumber, irqSourceNumber};
-ghost use Rattle.state.specs.FrameCodes.{phaseRead, lineRead, phaseNumber, valueOf, positionOf, lineNumber, linesNumber};
+ghost use Rattle.state.specs.FrameCodes.{phaseRead, lineRead, phaseNumber, valueOf, positionOf, linesNumber};
 ghost use Rattle.state.specs.Selections.{sourceRead, biasRead, commonsRead, pitchRead, irqSourceRead};
 ghost use Rattle.state.specs.Answers.{frameRead, settingsRead, malformed, readOf, writtenAs, writtenOver};
-ghost use Rattle.state.specs.Record.{upTo, maxima, mostBits, goesWithCs, bitsRight, restRight, tailOf};
+ghost use Rattle.state.specs.Record.{settingsWith, upTo, maxima, mostBits, goesWithCs, bitsRight, restRight, tailOf};
 use chip::Chip;
 use chip::Port;
 use clock::BaseCounter;
@@ -348,27 +347,19 @@ fn frame_of(lines: u8, code: u8, count: u8, value: u16, at: u8, position: u8, li
     FrameRead::Framed(phase, driven)
 }
 
-// Bytes 40 to 57.
-fn settings_of(bytes: &[u8]) -> SettingsRead
+// Bytes 40 to 57, with what the coded ones among them read to.
+fn settings_with(
+    bytes: &[u8],
+    source: Source,
+    bias: Bias,
+    commons: Commons,
+    pitch: Pitch,
+    irq: IrqSource,
+) -> Settings
     requires { ⌜ length (now bytes) ≡ 64 ⌝ }
-    ensures { λ r. ⌜ r ≡ settingsRead (now (bytes .entry)) ⌝ }
+    ensures { λ r. ⌜ r ≡ settingsWith (now (bytes .entry)) source bias commons pitch irq ⌝ }
 {
-    let SourceRead::From(source) = source_of(bytes[41]) else {
-        return SettingsRead::NoSettings;
-    };
-    let BiasRead::Biased(bias) = bias_of(bytes[43]) else {
-        return SettingsRead::NoSettings;
-    };
-    let CommonsRead::Has(commons) = commons_of(bytes[44]) else {
-        return SettingsRead::NoSettings;
-    };
-    let PitchRead::Sounds(pitch) = pitch_of(bytes[46]) else {
-        return SettingsRead::NoSettings;
-    };
-    let IrqSourceRead::Of(irq) = irq_source_of(bytes[50]) else {
-        return SettingsRead::NoSettings;
-    };
-    SettingsRead::Set(Settings {
+    Settings {
         system: System {
             on: bytes[40] == 1,
             source,
@@ -403,7 +394,30 @@ fn settings_of(bytes: &[u8]) -> SettingsRead
             },
         },
         test: bytes[57] == 1,
-    })
+    }
+}
+
+// Bytes 40 to 57.
+fn settings_of(bytes: &[u8]) -> SettingsRead
+    requires { ⌜ length (now bytes) ≡ 64 ⌝ }
+    ensures { λ r. ⌜ r ≡ settingsRead (now (bytes .entry)) ⌝ }
+{
+    let SourceRead::From(source) = source_of(bytes[41]) else {
+        return SettingsRead::NoSettings;
+    };
+    let BiasRead::Biased(bias) = bias_of(bytes[43]) else {
+        return SettingsRead::NoSettings;
+    };
+    let CommonsRead::Has(commons) = commons_of(bytes[44]) else {
+        return SettingsRead::NoSettings;
+    };
+    let PitchRead::Sounds(pitch) = pitch_of(bytes[46]) else {
+        return SettingsRead::NoSettings;
+    };
+    let IrqSourceRead::Of(irq) = irq_source_of(bytes[50]) else {
+        return SettingsRead::NoSettings;
+    };
+    SettingsRead::Set(settings_with(bytes, source, bias, commons, pitch, irq))
 }
 
 // The value of the unfinished bits, low byte first.
@@ -481,22 +495,6 @@ fn phase_number(phase: Phase) -> u8
     }
 }
 
-// Byte 34.
-fn count_of(phase: Phase) -> u8
-    ensures { λ r. ⌜ r ≡ unfinished phase ⌝ }
-{
-    match phase {
-        Phase::Idle => 0,
-        Phase::Ident(count, _) => count,
-        Phase::ReadTo(count, _) => count,
-        Phase::WriteTo(count, _) => count,
-        Phase::Reading(_, _) => 0,
-        Phase::Writing(count, _, _, _) => count,
-        Phase::Command(count, _) => count,
-        Phase::Dead => 0,
-    }
-}
-
 // Bytes 35 and 36.
 fn value_of(phase: Phase) -> u16
     ensures { λ r. ⌜ r ≡ valueOf phase ⌝ }
@@ -534,16 +532,6 @@ fn lines_number(levels: Levels) -> u8
     ensures { λ r. ⌜ r ≡ linesNumber levels ⌝ }
 {
     (levels.cs as u8) + 2 * (levels.wr as u8) + 4 * (levels.rd as u8) + 8 * (levels.bit as u8)
-}
-
-// Byte 39.
-fn line_number(line: Line) -> u8
-    ensures { λ r. ⌜ r ≡ lineNumber line ⌝ }
-{
-    match line {
-        Line::Released => 0,
-        Line::Driven(bit) => 1 + (bit as u8),
-    }
 }
 
 // Byte 41.
@@ -610,12 +598,12 @@ fn tail_of(chip: Chip) -> [u8; 32]
     [
         lines_number(levels),
         phase_number(phase),
-        count_of(phase),
+        phase.unfinished(),
         (value % 256) as u8,
         (value / 256) as u8,
         phase.address(),
         position_of(phase),
-        line_number(line),
+        line.number(),
         system.on as u8,
         source_number(source),
         lcd.on as u8,

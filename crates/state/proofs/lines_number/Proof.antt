@@ -1,6 +1,6 @@
 -- `state::lines_number` meets its contract: four bits make at most 15. Assumes nothing.
 use native.Mathlib.Omega.{arith}
-use Rattle.state.proofs.RecordLaws.{boolByte-small}
+use Rattle.ground.proofs.BitsLaws.{boolByte-small}
 use borrow.Author.Needs.{needs}
 use Rattle.state.proofs.lines_number.Statement.{statement}
 use Rattle.state.proofs.lines_number.Tie as tie

@@ -13,8 +13,8 @@ lines-number-requires c κs = search needs
 phase-number-requires : tie.Need-phase-number-requires
 phase-number-requires c κs = search needs
 
-count-of-requires : tie.Need-count-of-requires
-count-of-requires c κs = search needs
+unfinished-requires : tie.Need-unfinished-requires
+unfinished-requires c κs = search needs
 
 cast-t21 : tie.Need-cast-t21
 cast-t21 c = search needs
@@ -28,8 +28,8 @@ address-requires c κs = search needs
 position-of-requires : tie.Need-position-of-requires
 position-of-requires c κs = search needs
 
-line-number-requires : tie.Need-line-number-requires
-line-number-requires c κs = search needs
+number-requires : tie.Need-number-requires
+number-requires c κs = search needs
 
 cast-t27 : tie.Need-cast-t27
 cast-t27 c = search needs
@@ -43,8 +43,8 @@ cast-t29 c = search needs
 bias-number-requires : tie.Need-bias-number-requires
 bias-number-requires c κs = search needs
 
-number-requires : tie.Need-number-requires
-number-requires c κs = search needs
+number-requires-2 : tie.Need-number-requires-2
+number-requires-2 c κs = search needs
 
 cast-t32 : tie.Need-cast-t32
 cast-t32 c = search needs
@@ -72,26 +72,26 @@ unfolding tailOf
 returns c =
     let irq-source-number-at = c .before .before in
     let pitch-number-at = irq-source-number-at .before .before .before in
-    let number-at = pitch-number-at .before .before in
-    let bias-number-at = number-at .before in
+    let commons-number-at = pitch-number-at .before .before in
+    let bias-number-at = commons-number-at .before in
     let source-number-at = bias-number-at .before .before in
     let line-number-at = source-number-at .before .before in
     let position-of-at = line-number-at .before in
     let address-at = position-of-at .before in
-    let count-of-at = address-at .before in
-    let phase-number-at = count-of-at .before in
+    let unfinished-at = address-at .before in
+    let phase-number-at = unfinished-at .before in
     let lines-number-at = phase-number-at .before in
     let value-of-at = lines-number-at .before in
     simp (
       irq-source-number-at .irq-source-number .ensures,
       pitch-number-at .pitch-number .ensures,
-      number-at .number .ensures,
+      commons-number-at .number2 .ensures,
       bias-number-at .bias-number .ensures,
       source-number-at .source-number .ensures,
-      line-number-at .line-number .ensures,
+      line-number-at .number .ensures,
       position-of-at .position-of .ensures,
       address-at .address .ensures,
-      count-of-at .count-of .ensures,
+      unfinished-at .unfinished .ensures,
       phase-number-at .phase-number .ensures,
       lines-number-at .lines-number .ensures,
       value-of-at .value-of .ensures,
@@ -104,17 +104,17 @@ tail-of-spec =
     value-of-requires
     lines-number-requires
     phase-number-requires
-    count-of-requires
+    unfinished-requires
     cast-t21
     cast-t23
     address-requires
     position-of-requires
-    line-number-requires
+    number-requires
     cast-t27
     source-number-requires
     cast-t29
     bias-number-requires
-    number-requires
+    number-requires-2
     cast-t32
     pitch-number-requires
     cast-t34

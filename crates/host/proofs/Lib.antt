@@ -1,0 +1,3 @@
+pub mod CodesLaws
+pub mod Determined
+pub mod HostLaws

@@ -1,0 +1,320 @@
+/* A host in C over both libraries, held to the paper: the worked stream, the cases on both sides, every damaged record, every
+   order of refusals that a length can show, buffers between guard bytes, and writes stopped at every sample. What is expected is
+   written here from the paper; nothing is taken from the code under test. Exits with 1 at the first fault. */
+#include <stdio.h>
+#include <stdlib.h>
+#include <string.h>
+
+#include "ht1621_host.h"
+#include "ht1621_simulator.h"
+
+enum { GUARD = 16, ROOM = 700 };
+
+static unsigned long checks;
+
+#define CHECK(fact) check(fact, #fact, __LINE__)
+
+static void check(int holds, const char *fact, int line)
+{
+    checks++;
+    if (!holds) {
+        printf("host.c:%d: does not hold: %s\n", line, fact);
+        exit(1);
+    }
+}
+
+/* A buffer on the heap, exactly as long as its guards and its body ask. */
+struct lent {
+    uint8_t *all, *body;
+    size_t bytes;
+};
+
+static uint8_t filler(size_t i) { return (uint8_t)(0x80 | (i * 37)); }
+
+static struct lent lend(size_t bytes)
+{
+    struct lent l = {malloc(bytes + 2 * GUARD), NULL, bytes};
+    CHECK(l.all != NULL);
+    l.body = l.all + GUARD;
+    for (size_t i = 0; i < bytes + 2 * GUARD; i++)
+        l.all[i] = filler(i);
+    return l;
+}
+
+static struct lent lend_record(const uint8_t *record)
+{
+    struct lent l = lend(HT1621_RECORD_BYTES);
+    memcpy(l.body, record, HT1621_RECORD_BYTES);
+    return l;
+}
+
+/* Whether nothing changed but the first `written` bytes of the body; then the buffer is given back. */
+static int intact(struct lent l, size_t written)
+{
+    int good = 1;
+    for (size_t i = 0; i < l.bytes + 2 * GUARD; i++)
+        if ((i < GUARD || i >= GUARD + written) && l.all[i] != filler(i))
+            good = 0;
+    free(l.all);
+    return good;
+}
+
+/* Of the bytes after the memory: the most that each may be, but for what goes by phase. */
+static const uint8_t most[32] = {15, 7, 8, 255, 255, 31, 3, 2, 1, 2, 1, 3, 4, 1, 4, 1,
+                                 7, 1, 2, 1, 7, 15, 127, 255, 3, 1, 0, 0, 0, 0, 0, 0};
+
+static int valid(const uint8_t *r)
+{
+    static const uint8_t bits[8] = {0, 2, 5, 5, 0, 3, 8, 0};
+    unsigned phase = r[33], in_data = phase == 4 || phase == 5;
+    for (int i = 0; i < 32; i++)
+        if (r[i] > 15 || r[32 + i] > most[i])
+            return 0;
+    if (r[43] < 2 || r[44] < 2 || (r[46] != 4 && r[46] != 2))
+        return 0;
+    if ((phase == 0) != (r[32] & 1) || r[34] > bits[phase] || (r[35] + 256u * r[36]) >> r[34] != 0)
+        return 0;
+    return in_data || (r[37] == 0 && r[38] == 0 && r[39] == 0);
+}
+
+/* Power-on as the paper lists it, byte by byte. */
+static void powered(uint8_t *r, const uint8_t *memory)
+{
+    memset(r, 0, HT1621_RECORD_BYTES);
+    memcpy(r, memory, HT1621_ADDRESSES);
+    r[HT1621_AT_LINES] = 15;
+    r[HT1621_AT_SOURCE] = 1;
+    r[HT1621_AT_BIAS] = 2;
+    r[HT1621_AT_COMMONS] = 2;
+    r[HT1621_AT_PITCH] = 4;
+    r[HT1621_AT_RATE] = 7;
+}
+
+/* One record of each phase. */
+static void in_phase(uint8_t *r, uint8_t phase)
+{
+    static const uint8_t memory[HT1621_ADDRESSES] = {5, 10, 15, 3};
+    powered(r, memory);
+    r[HT1621_AT_PHASE] = phase;
+    if (phase != 0)
+        r[HT1621_AT_LINES] = 14;
+    if (phase == 4 || phase == 5) {
+        r[HT1621_AT_ADDRESS] = 2;
+        r[HT1621_AT_POSITION] = 1;
+        r[HT1621_AT_DATA] = 2;
+    }
+}
+
+static uint32_t refused(uint32_t number, uint32_t place) { return 0x80000000u + 256 * place + number; }
+
+/* All three calls on one record: refused with 28, or taken, as the paper has it; and no byte changed by a refusal. */
+static void three_calls(const uint8_t *record)
+{
+    uint32_t malformed = valid(record) ? 0 : HT1621_MALFORMED;
+    struct lent l = lend_record(record);
+    uint32_t r = step(l.body, l.bytes, 16);
+    CHECK(r == (malformed ? malformed : HT1621_SAMPLE_ABOVE));
+    CHECK(memcmp(l.body, record, HT1621_RECORD_BYTES) == 0);
+    r = advance(l.body, l.bytes, 0);
+    CHECK(r == malformed && memcmp(l.body, record, HT1621_RECORD_BYTES) == 0);
+    struct lent cells = lend(33);
+    r = pins(l.body, l.bytes, cells.body, cells.bytes);
+    CHECK(malformed ? r == malformed : !HT1621_PINS_REFUSED(r) && HT1621_PINS_DATA(r) == record[HT1621_AT_DATA]);
+    CHECK(intact(cells, malformed ? 0 : 32));
+    r = step(l.body, l.bytes, 15);
+    CHECK(malformed ? r == malformed : HT1621_STEP_ANSWER(r) <= HT1621_FRAME_CUT);
+    CHECK(malformed ? memcmp(l.body, record, HT1621_RECORD_BYTES) == 0 : valid(l.body));
+    CHECK(intact(l, HT1621_RECORD_BYTES));
+}
+
+/* In each phase each byte at every value; the bits' count, value and phase together; and every length. */
+static void damaged_records(void)
+{
+    uint8_t record[HT1621_RECORD_BYTES], was;
+    for (uint8_t phase = 0; phase < 8; phase++) {
+        in_phase(record, phase);
+        CHECK(valid(record));
+        for (int at = 0; at < HT1621_RECORD_BYTES; at++) {
+            was = record[at];
+            for (int value = 0; value < 256; value++) {
+                record[at] = (uint8_t)value;
+                three_calls(record);
+            }
+            record[at] = was;
+        }
+        for (int count = 0; count < 10; count++)
+            for (int bit = 0; bit < 16; bit++) {
+                record[HT1621_AT_COUNT] = (uint8_t)count;
+                record[HT1621_AT_VALUE] = (uint8_t)(1u << bit);
+                record[HT1621_AT_VALUE + 1] = (uint8_t)(1u << bit >> 8);
+                three_calls(record);
+            }
+    }
+    in_phase(record, 5);
+    for (size_t length = 0; length <= 130; length++) {
+        struct lent l = lend(length), cells = lend(40);
+        memcpy(l.body, record, length < 64 ? length : 64);
+        uint32_t s = step(l.body, length, 14), a = advance(l.body, length, 3), p = pins(l.body, length, cells.body, 40);
+        CHECK(length == 64 ? s == 0 && a == 0 && !HT1621_PINS_REFUSED(p) : s == 28 && a == 28 && p == 28);
+        CHECK(intact(cells, length == 64 ? 32 : 0));
+        CHECK(intact(l, length < 64 ? length : 64));
+    }
+}
+
+/* The worked stream, the streams' lengths, and refusals in the table's order with the output of every length around. */
+static void streams(void)
+{
+    static const char worked[] = "fece46ce46464646cecece46ce46f";
+    uint8_t nibbles[33] = {5}, out[ROOM];
+    uint32_t n = ht1621_write(3, nibbles, 1, out, sizeof out);
+    CHECK(n == 29 && strlen(worked) == 29);
+    for (uint32_t i = 0; i < n; i++)
+        CHECK(out[i] == strtoul((char[]){worked[i], 0}, NULL, 16));
+    for (size_t first = 0; first <= 33; first++)
+        for (size_t count = 0; count <= 33; count++) {
+            size_t needed = 21 + 8 * count;
+            int ranged = first <= 31 && first + count <= 32;
+            for (size_t room = needed - 2; room <= needed + 2; room++) {
+                uint32_t due = count == 0 ? refused(21, 0) : !ranged ? refused(22, 0)
+                                                       : room < needed ? refused(25, 0) : (uint32_t)needed;
+                struct lent w = lend(room), r = lend(room);
+                CHECK(ht1621_write(first, nibbles, count, w.body, room) == due);
+                CHECK(ht1621_read(first, count, r.body, room) == due);
+                size_t written = HT1621_REFUSED(due) ? 0 : due;
+                CHECK(written == 0 || (w.body[0] == 15 && w.body[1] == 14 && w.body[needed - 1] == 15));
+                CHECK(intact(w, written) && intact(r, written));
+            }
+        }
+    nibbles[7] = 16, nibbles[9] = 255;
+    CHECK(ht1621_write(0, nibbles, 10, out, 0) == refused(23, 7));
+    CHECK(ht1621_write(23, nibbles, 10, out, 0) == refused(22, 0));
+    CHECK(ht1621_write((size_t)-1, nibbles, 1, out, sizeof out) == refused(22, 0));
+    CHECK(ht1621_read(1, (size_t)-1, out, sizeof out) == refused(22, 0));
+}
+
+static void commands_and_notes(void)
+{
+    uint8_t codes[33] = {0x2B, 0x0D, 0x2C}, noted[132] = {1, 0, 1, 0}, out[ROOM], memory[33] = {0}, due[64];
+    for (size_t room = 25; room <= 29; room++) {
+        struct lent o = lend(room);
+        CHECK(ht1621_commands(codes, 1, o.body, room) == (room < 27 ? refused(25, 0) : 27));
+        CHECK(intact(o, room < 27 ? 0 : 27));
+    }
+    CHECK(ht1621_commands(codes, 3, out, 0) == refused(24, 2));
+    CHECK(ht1621_commands(codes, 33, out, 0) == refused(22, 0));
+    CHECK(ht1621_commands(codes, 0, out, 0) == refused(21, 0));
+    memset(codes, 1, sizeof codes);
+    CHECK(ht1621_commands(codes, 32, out, sizeof out) == 9 + 18 * 32);
+    for (size_t count = 0; count <= 132; count++) {
+        struct lent o = lend(count / 4 + 1);
+        uint32_t fits = count == 0 || count > 128 || count % 4 ? refused(26, 0) : (uint32_t)(count / 4);
+        CHECK(ht1621_decode(noted, count, o.body, o.bytes) == fits);
+        CHECK(HT1621_REFUSED(fits) || o.body[0] == 5);
+        CHECK(intact(o, HT1621_REFUSED(fits) ? 0 : fits));
+    }
+    noted[6] = 2;
+    CHECK(ht1621_decode(noted, 8, out, 0) == refused(27, 6));
+    noted[6] = 0;
+    CHECK(ht1621_decode(noted, 8, out, 1) == refused(25, 0));
+    for (size_t count = 0; count <= 33; count++)
+        for (size_t room = 62; room <= 66; room++) {
+            struct lent o = lend(room);
+            uint32_t answer = count != 32 ? refused(29, 0) : room < 64 ? refused(25, 0) : 64;
+            CHECK(ht1621_power_on(memory, count, o.body, room) == answer);
+            powered(due, memory);
+            CHECK(HT1621_REFUSED(answer) || memcmp(o.body, due, 64) == 0);
+            CHECK(intact(o, HT1621_REFUSED(answer) ? 0 : 64));
+        }
+    memory[31] = 16;
+    CHECK(ht1621_power_on(memory, 32, out, 0) == refused(23, 31));
+    CHECK(ht1621_power_on(memory, 31, out, 0) == refused(29, 0));
+}
+
+static void put(uint8_t *chip, const uint8_t *samples, size_t count)
+{
+    for (size_t i = 0; i < count; i++)
+        CHECK(!HT1621_STEP_REFUSED(step(chip, HT1621_RECORD_BYTES, samples[i])));
+}
+
+static void command(uint8_t *chip, uint8_t code)
+{
+    uint8_t stream[HT1621_COMMANDS_BYTES(1)];
+    put(chip, stream, ht1621_commands(&code, 1, stream, sizeof stream));
+}
+
+static uint32_t irq_after(const uint8_t *chip, uint16_t ticks)
+{
+    uint8_t later[HT1621_RECORD_BYTES], cells[HT1621_ADDRESSES];
+    memcpy(later, chip, sizeof later);
+    CHECK(advance(later, sizeof later, ticks) == 0);
+    return HT1621_PINS_IRQ_LOW(pins(later, sizeof later, cells, sizeof cells));
+}
+
+/* The paper's cases (a), (b), (f) to (j), on the linked chip; (c), (d), (e) and (k) are among the streams above. */
+static void cases(void)
+{
+    uint8_t memory[HT1621_ADDRESSES] = {0}, chip[HT1621_RECORD_BYTES];
+    ht1621_power_on(memory, sizeof memory, chip, sizeof chip);
+    CHECK(step(chip, sizeof chip, 15) == HT1621_NOTHING);
+    CHECK(step(chip, sizeof chip, 16) == HT1621_SAMPLE_ABOVE);
+    CHECK(step(chip, sizeof chip, 14) == HT1621_FRAME_OPENED);
+    command(chip, 0x2B);
+    CHECK(chip[HT1621_AT_COMMONS] == 4 && chip[HT1621_AT_BIAS] == 3);
+    command(chip, 0x01); /* SYS EN */
+    command(chip, 0x06); /* TIMER EN */
+    command(chip, 0x88); /* IRQ EN */
+    CHECK(irq_after(chip, 1023) == 0 && irq_after(chip, 1024) == 1);
+    command(chip, 0x14); /* XTAL */
+    CHECK(irq_after(chip, 127) == 0 && irq_after(chip, 128) == 1);
+    command(chip, 0x07); /* WDT EN */
+    CHECK(irq_after(chip, 1023) == 0 && irq_after(chip, 1024) == 1);
+    CHECK(advance(chip, sizeof chip, 300) == 0 && chip[HT1621_AT_B] == 44 && chip[HT1621_AT_W] == 1);
+    command(chip, 0x0D);
+    CHECK(chip[HT1621_AT_B] == 0 && chip[HT1621_AT_W] == 1);
+    command(chip, 0x0F);
+    CHECK(chip[HT1621_AT_B] == 0 && chip[HT1621_AT_W] == 0);
+}
+
+/* A write stopped after every number of its samples with ticks between: new values in front, old ones behind, settings and
+   counters as a twin has them that gets the ticks alone; then resent. */
+static void interrupted(void)
+{
+    uint8_t memory[HT1621_ADDRESSES], start[HT1621_RECORD_BYTES], stream[ROOM], nibbles[20];
+    const size_t first = 7, count = sizeof nibbles;
+    for (size_t i = 0; i < sizeof memory; i++)
+        memory[i] = (uint8_t)(i % 16);
+    for (size_t i = 0; i < count; i++)
+        nibbles[i] = (uint8_t)(15 - (first + i) % 16);
+    ht1621_power_on(memory, sizeof memory, start, sizeof start);
+    command(start, 0x01); /* SYS EN */
+    command(start, 0x07); /* WDT EN */
+    uint32_t samples = ht1621_write(first, nibbles, count, stream, sizeof stream);
+    for (uint32_t stop = 0; stop <= samples; stop++) {
+        uint8_t chip[HT1621_RECORD_BYTES], twin[HT1621_RECORD_BYTES];
+        size_t done = stop < 28 ? 0 : (stop - 20) / 8;
+        memcpy(chip, start, sizeof chip);
+        memcpy(twin, start, sizeof twin);
+        for (uint32_t i = 0; i < stop; i++) {
+            put(chip, stream + i, 1);
+            advance(chip, sizeof chip, (uint16_t)(i * 7));
+            advance(twin, sizeof twin, (uint16_t)(i * 7));
+        }
+        CHECK(memcmp(chip + first, nibbles, done) == 0);
+        CHECK(memcmp(chip, memory, first) == 0);
+        CHECK(memcmp(chip + first + done, memory + first + done, sizeof memory - first - done) == 0);
+        CHECK(memcmp(chip + HT1621_AT_SYSTEM, twin + HT1621_AT_SYSTEM, HT1621_AT_ZEROS - HT1621_AT_SYSTEM) == 0);
+        put(chip, stream, samples);
+        CHECK(memcmp(chip + first, nibbles, count) == 0);
+    }
+}
+
+int main(void)
+{
+    damaged_records();
+    streams();
+    commands_and_notes();
+    cases();
+    interrupted();
+    printf("host.c: %lu facts of the paper hold of the linked libraries\n", checks);
+    return 0;
+}
