@@ -5,9 +5,8 @@ ghost use Prim.Native.Nat.{_≤_};
 ghost use lib.ListN.{length};
 ghost use Rattle.ground.specs.Written.{over};
 ghost use Rattle.state.specs.Answers.{verdictNumber};
-ghost use Rattle.simulator.specs.Simulator.{answerCode, pinsCode, stepReturns, stepBytes, advanceReturns, advanceBytes, pinsReturns, pinsBytes};
+ghost use Rattle.simulator.specs.Simulator.{pinsCode, stepReturns, stepBytes, advanceReturns, advanceBytes, pinsReturns, pinsBytes};
 use chip::Pins;
-use frames::Answer;
 use ground::Refusal;
 use state::Verdict;
 
@@ -19,16 +18,6 @@ fn refused_by(verdict: Verdict) -> u32
         Verdict::Valid => 0,
         Verdict::Refused(refusal) => refusal.number() as u32,
     }
-}
-
-// An answer and its two details as one number.
-fn code_of(answer: Answer) -> u32
-    ensures { λ r. ⌜ r ≡ answerCode answer ⌝ }
-{
-    let number = answers::number_of(answer);
-    let first = answers::first_detail(answer);
-    let second = answers::second_detail(answer);
-    number as u32 + 256 * (first as u32) + 65536 * (second as u32)
 }
 
 // The pins as one number.
@@ -67,11 +56,10 @@ pub extern "C" fn step(bytes: &mut [u8], sample: u8) -> u32
         return 20;
     }
     let chip = reading.chip;
-    let stepped = chip.step(sample);
-    let answer = stepped.answer;
-    let next = stepped.chip;
+    let done = place::via_place(chip, sample);
+    let next = done.chip;
     state::write(next, bytes);
-    code_of(answer)
+    done.number
 }
 
 // So many single ticks: returns 0.
