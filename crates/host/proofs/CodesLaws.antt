@@ -9,12 +9,14 @@ use lib.ListN.{length}
 use borrow.Author.Tests.{lt-ltb, le-ltb, ltb-false}
 use Rattle.ground.proofs.ChoiceLaws.{either, by-cases}
 use Rattle.ground.specs.declared.Refusal.{Refusal}
-use Rattle.ground.specs.declared.Refusal.the-variants.{SampleAbove, NothingAsked, OutOfRange, NibbleAbove, UndefinedCommand, OutputShort, NotedCount, NotedAbove, Malformed, MemoryCount}
+use Rattle.ground.specs.declared.Refusal.the-variants.{SampleAbove, NothingAsked, OutOfRange, NibbleAbove, UndefinedCommand}
+use Rattle.ground.specs.declared.Refusal.the-variants.{OutputShort, NotedCount, NotedAbove, Malformed, MemoryCount}
 use Rattle.ground.specs.Places.{lowest, somewhere}
 use Rattle.ground.specs.Refusals.{refusalNumber, refusalPlace}
 use Rattle.driver.specs.declared.Answer.{Answer}
 use Rattle.driver.specs.declared.Answer.the-variants.{Written, Refused}
-use Rattle.driver.specs.Refusals.{nothing, outsideMemory, tooMany, miscounted, nibbleFault, notedFault, commandFault, refusedIf, fitted, writeAnswer, readAnswer, commandAnswer, decodeAnswer}
+use Rattle.driver.specs.Refusals.{nothing, outsideMemory, tooMany, miscounted, nibbleFault, notedFault, commandFault}
+use Rattle.driver.specs.Refusals.{refusedIf, fitted, writeAnswer, readAnswer, commandAnswer, decodeAnswer}
 use Rattle.driver.specs.Streams.{writeStream, readStream, commandStream, decoded}
 use Rattle.driver.proofs.RefusalsLaws.{inside}
 use Rattle.driver.proofs.StreamsLaws.{write-length, read-length, commands-length, decoded-length}

@@ -16,7 +16,7 @@ use Rattle.driver.specs.Streams.{writeStream, readStream, commandStream, decode
 use Rattle.driver.specs.Refusals.{refusedIf, left, writeAnswer, readAnswer, commandAnswer, decodeAnswer}
 use Rattle.state.specs.Record.{recordOf}
 
--- A refusal as one number: 2^31, which no count of bytes reaches, then the place above the lowest byte, and there the number.
+-- A refusal as one number: 2^31, which no count of bytes reaches; the place above the lowest byte; and there the number.
 unfoldable pub refusedCode : Refusal → ℕ
 refusedCode why = 2147483648 + 256 * refusalPlace why + refusalNumber why
 
