@@ -1,6 +1,6 @@
 -- The layout of the chip and of `Numbered`, for the walks. Assumes nothing.
-use mathlib.Core.Path.{_≡_, refl}
-use mathlib.Core.List.{[], _∷_, List}
+use mathlib.Core.Path.{refl}
+use mathlib.Core.List.{[], _∷_}
 use mir.Syntax.{Ty}
 use mir.Val.{Val}
 use denote.Memory.{lone, pointee}

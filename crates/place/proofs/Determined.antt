@@ -14,9 +14,7 @@ use denote.Laws.{both-say}
 use denote.Ref.{now}
 use denote.Triple.Clauses.{AtExit}
 use denote.Triple.Entry.{Args}
-use Rattle.chip.specs.Chip.{stepped}
 use Rattle.ground.specs.Determined.{Determined}
-use Rattle.place.specs.Place.{answerCode}
 use Rattle.place.proofs.step_in_place as step-in-place
 use Rattle.place.proofs.via_place.Kinds as via-place-kinds
 use Rattle.place.proofs.via_place.Reads as via-place-reads

@@ -22,10 +22,10 @@ fn code_of(answer: Answer) -> u32
 }
 
 // A sample on a chip by value.
-fn with_number(chip: Chip, sample: u8) -> Numbered
-    ensures { λ r. ⌜ r ≡ numbered chip sample ⌝ }
+fn with_number(before: Chip, sample: u8) -> Numbered
+    ensures { λ r. ⌜ r ≡ numbered before sample ⌝ }
 {
-    let done = chip.step(sample);
+    let done = before.step(sample);
     let answer = done.answer;
     let number = code_of(answer);
     let next = done.chip;
