@@ -1,188 +1,22 @@
 // Times the libraries against plain C by two compilers and plain Rust, all in this process: medians of many rounds, each of
 // which takes the four in turn and begins with another, so that whatever the machine does meanwhile hits all alike.
 // Before anything is timed all four have to agree, and after each timing on what it left behind.
-// Argument: the number of rounds.
+// Arguments: the number of rounds; a word, for the rows alone whose names have it.
+mod agree;
+mod inputs;
 mod packs;
 mod plain;
 mod stack;
 
+use inputs::{capture, frames, mixed, nibbles, noted, power_on, with, CODES, RATE, RUNS, SOURCE};
 use packs::{packs, Pack, NAMES};
-use std::fmt::Debug;
 use std::hint::black_box;
 use std::process::exit;
-use std::time::Instant;
 
-// ---- inputs ----
-
-const SOURCE: usize = 41;
-const RATE: usize = 48;
-const RUNS: [(usize, u8); 2] = [(40, 1), (49, 1)]; // system and time base on
-
-fn power_on() -> [u8; 64] {
-    with(&[(32, 15), (SOURCE, 1), (43, 2), (44, 2), (46, 4), (RATE, 7)], [0; 64])
-}
-
-fn with(bytes: &[(usize, u8)], mut record: [u8; 64]) -> [u8; 64] {
-    bytes.iter().for_each(|&(at, byte)| record[at] = byte);
-    record
-}
-
-// Commands of every kind, 32 of them: SYS EN, RC, bias 1/3 and 4 commons, LCD ON come first, as at a start.
-const CODES: [u8; 32] = [
-    0x01, 0x18, 0x29, 0x03, 0x06, 0x88, 0xa7, 0x09, 0x40, 0x0d, 0x07, 0x0f, 0x80, 0x60, 0x08, 0xa3, 0x05, 0x04, 0x14, 0x24,
-    0xe3, 0x02, 0x00, 0x01, 0x1c, 0x2b, 0x5f, 0x9f, 0xbf, 0xe0, 0x18, 0x03,
-];
-
-// The nibbles of the timed writes, and bits as a host notes them.
-fn nibbles() -> Vec<u8> {
-    (0..32).map(|i| (i * 7 + 3) % 16).collect()
-}
-
-fn noted() -> Vec<u8> {
-    (0..128).map(|i| (i * i + i / 3) as u8 % 2).collect()
-}
-
-fn stream(make: impl Fn(&mut [u8]) -> u32) -> Vec<u8> {
-    let mut out = vec![0; 600];
-    let count = make(&mut out) as usize;
-    out[..count].to_vec()
-}
-
-fn frames(count: usize) -> [Vec<u8>; 3] {
-    let pack = packs()[0];
-    [
-        stream(|out| pack.write(0, &nibbles()[..count], out)),
-        stream(|out| pack.read(0, count, out)),
-        stream(|out| pack.commands(&CODES[..count], out)),
-    ]
-}
-
-// A capture: frames of 1 to 32 nibbles or commands with a tick after every eighth sample.
-fn capture(bytes: usize) -> Vec<u8> {
-    let mut text = Vec::new();
-    for count in (1..=32).cycle() {
-        for &sample in frames(count).concat().iter() {
-            text.push(b"0123456789abcdef"[sample as usize]);
-            if text.len() % 9 == 8 {
-                text.push(b't');
-            }
-        }
-        if text.len() >= bytes {
-            break;
-        }
-    }
-    text.truncate(bytes);
-    text
-}
-
-// ---- agreement ----
-
-struct Random(u64);
-
-impl Random {
-    fn below(&mut self, n: u64) -> u64 {
-        self.0 = self.0.wrapping_mul(6364136223846793005).wrapping_add(1442695040888963407);
-        (self.0 >> 33) % n
-    }
-
-    fn bytes(&mut self, count: u64, most: u64) -> Vec<u8> {
-        (0..count).map(|_| self.below(most + 1) as u8).collect()
-    }
-}
-
-// What all four give, or the end of the benchmark.
-fn same<T: PartialEq + Debug>(what: &str, of: impl Fn(&Pack) -> T) -> T {
-    let [ours, others @ ..] = packs().map(of);
-    for (name, other) in NAMES[1..].iter().zip(others) {
-        if other != ours {
-            println!("bench: {what}: {name} and ours differ:\n{other:?}\n{ours:?}");
-            exit(1);
-        }
-    }
-    ours
-}
-
-fn stepped(record: &[u8], sample: u8) -> Vec<u8> {
-    let (_, next) = same("step", |pack| {
-        let mut record = record.to_vec();
-        (pack.step(&mut record, sample), record)
-    });
-    next
-}
-
-// Every call with one record.
-fn agree_on(record: &[u8], sample: u8, ticks: u16) {
-    stepped(record, sample);
-    same("advance", |pack| {
-        let mut record = record.to_vec();
-        (pack.advance(&mut record, ticks), record)
-    });
-    for room in [31, 32, 40] {
-        same("pins", |pack| {
-            let mut cells = vec![0xee; room];
-            (pack.pins(record, &mut cells), cells)
-        });
-    }
-}
-
-// Random calls of the host's side, at and beyond their limits; what they stream, with a sample in 50 another one, is stepped;
-// now and then every call is made, and made again with a byte of the record replaced.
-fn agree(random: &mut Random) {
-    let mut record = power_on().to_vec();
-    for _ in 0..3000 {
-        let (first, count) = (random.below(34) as usize, random.below(35));
-        let beyond = random.below(20) / 19; // seldom 1
-        let values = random.bytes(count, 15 + beyond);
-        let odd = random.below(8) / 7;
-        let bits = random.bytes(4 * count + odd, 1 + beyond);
-        let codes: Vec<u8> = (0..count).map(|_| CODES[random.below(32) as usize]).collect();
-        let any = random.bytes(count.min(2), 255);
-        let room = if random.below(4) == 0 { random.below(600) as usize } else { 600 };
-        let made = [
-            same("write", |pack| out_of(room, |out| pack.write(first, &values, out))),
-            same("read", |pack| out_of(room, |out| pack.read(first, count as usize, out))),
-            same("commands", |pack| out_of(room, |out| pack.commands(&codes, out))),
-            same("commands", |pack| out_of(room, |out| pack.commands(&any, out))),
-            same("decode", |pack| out_of(room / 8, |out| pack.decode(&bits, out))),
-        ];
-        for (answer, bytes) in &made[..4] {
-            let count = if answer >> 31 == 0 { *answer as usize } else { 0 };
-            for &sample in &bytes[..count] {
-                let sample = if random.below(50) == 0 { random.below(17) as u8 } else { sample };
-                record = stepped(&record, sample);
-                if random.below(40) == 0 {
-                    let ticks = random.below(4000) as u16;
-                    agree_on(&record, sample, ticks);
-                    let mut broken = record.clone();
-                    broken[random.below(64) as usize] = random.below(20) as u8;
-                    agree_on(&broken[..64 - random.below(9) as usize / 8], sample, ticks);
-                }
-            }
-        }
-    }
-}
-
-fn out_of(room: usize, make: impl Fn(&mut [u8]) -> u32) -> (u32, Vec<u8>) {
-    let mut out = vec![0xee; room];
-    (make(&mut out), out)
-}
-
-fn agree_listings() {
-    let whole = capture(65536);
-    let mut bad = whole[..5000].to_vec();
-    bad.push(b'X');
-    for input in [&whole[..], &whole[..777], &bad, &[], &[b' '; 65537]] {
-        packs::load(input);
-        for formatted in [false, true] {
-            same("listing", |pack| (pack.listing(formatted), packs::printed()));
-        }
-    }
-}
-
-// ---- timing ----
-
+#[derive(Clone, PartialEq)]
 struct Lab {
     record: [u8; 64],
+    chips: [[u8; 64]; 16],
     out: [u8; 600],
     sum: u32,
 }
@@ -194,19 +28,30 @@ struct Job {
     run: Box<dyn Fn(&Pack, &mut Lab)>,
 }
 
+// The processor's time of this thread in nanoseconds: what others take of the machine does not count.
+fn now() -> f64 {
+    extern "C" {
+        fn clock_gettime(clock: i32, seconds_and_nanoseconds: *mut [i64; 2]) -> i32;
+    }
+    const OF_THE_THREAD: i32 = 3;
+    let mut time = [0; 2];
+    unsafe { clock_gettime(OF_THE_THREAD, &mut time) };
+    time[0] as f64 * 1e9 + time[1] as f64
+}
+
 fn timed(job: &Job, pack: &Pack, times: usize) -> (f64, Lab) {
-    let mut lab = Lab { record: job.start, out: [0xee; 600], sum: 0 };
-    let begun = Instant::now();
+    let mut lab = Lab { record: job.start, chips: [job.start; 16], out: [0xee; 600], sum: 0 };
+    let begun = now();
     for _ in 0..times {
         (job.run)(black_box(pack), &mut lab);
     }
-    (begun.elapsed().as_secs_f64() * 1e9, lab)
+    (now() - begun, lab)
 }
 
 // Nanoseconds a unit for each of the four.
 fn measured(job: &Job, rounds: usize) -> [f64; 4] {
     let mut times = 1;
-    while timed(job, packs()[0], times).0 < 50_000.0 {
+    while timed(job, packs()[0], times).0 < 100_000.0 {
         times *= 2;
     }
     let mut taken = [(); 4].map(|_| Vec::new());
@@ -215,8 +60,7 @@ fn measured(job: &Job, rounds: usize) -> [f64; 4] {
         for which in (0..4).map(|k| (k + round) % 4) {
             let (spent, lab) = timed(job, packs()[which], times);
             taken[which].push(spent / (times * job.units) as f64);
-            let first = left.get_or_insert(Lab { ..lab });
-            if (first.record, first.out, first.sum) != (lab.record, lab.out, lab.sum) {
+            if *left.get_or_insert(lab.clone()) != lab {
                 println!("bench: {}: {} left something else behind", job.name, NAMES[which]);
                 exit(1);
             }
@@ -245,6 +89,17 @@ fn steps(name: &str, samples: Vec<u8>) -> Job {
     job(name, samples.len(), power_on(), move |pack, lab| {
         for &sample in &samples {
             lab.sum = lab.sum.wrapping_add(pack.step(&mut lab.record, sample));
+        }
+    })
+}
+
+// Sixteen chips, each of which gets a sample in its turn.
+fn steps_in_turn(name: &str, samples: Vec<u8>) -> Job {
+    job(name, 16 * samples.len(), power_on(), move |pack, lab| {
+        for &sample in &samples {
+            for chip in &mut lab.chips {
+                lab.sum = lab.sum.wrapping_add(pack.step(chip, sample));
+            }
         }
     })
 }
@@ -287,18 +142,22 @@ fn listings(name: &str, formatted: bool, bytes: usize) -> Job {
 }
 
 fn number(x: f64) -> String {
-    if x < 1000.0 { format!("{x:.1}") } else { format!("{x:.0}") }
+    if x < 1000.0 {
+        format!("{x:.1}")
+    } else {
+        format!("{x:.0}")
+    }
 }
 
 fn jobs() -> Vec<Job> {
     let [write, read, command] = frames(32);
-    let mix = (1..=8).flat_map(|count| frames(count).concat()).collect();
     let xtal = with(&[(SOURCE, 0)], with(&RUNS, power_on()));
     let slow = with(&[(RATE, 0)], xtal);
     let rc = with(&RUNS, power_on());
     let shown = with(&[(42, 1), (44, 4), (45, 1), (47, 1), (50, 1)], rc);
     let mut all = vec![
-        steps("step, frames mixed", mix),
+        steps("step, frames mixed", mixed()),
+        steps_in_turn("step, 16 chips in turn", frames(2).concat()),
         steps("step, a write frame", write),
         steps("step, a read frame", read),
         steps("step, a command frame", command),
@@ -319,26 +178,13 @@ fn jobs() -> Vec<Job> {
     all
 }
 
-fn growth(title: &str, rounds: usize, jobs: Vec<(usize, Job)>) {
-    println!("\n{title}\n{:>8} {:>12} {:>12} {:>12}", "number", "ours, ns", "ours, each", "clang, ns");
-    for (count, job) in jobs {
-        let [ours, clang, ..] = measured(&job, rounds).map(|each| each * job.units as f64);
-        let (ours, clang) = if job.units == 64 { (ours / 64.0, clang / 64.0) } else { (ours, clang) };
-        println!("{count:>8} {:>12} {:>12.3} {:>12}", number(ours), ours / count.max(1) as f64, number(clang));
-    }
-}
-
-fn main() {
-    let rounds = std::env::args().nth(1).map_or(101, |word| word.parse().expect("a number of rounds"));
-    agree(&mut Random(1621));
-    agree_listings();
-    println!("All four agree. Nanoseconds, the median of {rounds} rounds:\n");
+fn table(rounds: usize, only: &str) {
     print!("{:<28}", "");
     NAMES.iter().for_each(|name| print!("{name:>10}"));
     println!("{:>9}{:>9}{:>9}", "/clang", "/gcc", "/Rust");
     let mut slower = Vec::new();
-    for job in jobs() {
-        let each = measured(&job, rounds);
+    for job in jobs().iter().filter(|job| job.name.contains(only)) {
+        let each = measured(job, rounds);
         print!("{:<28}", job.name);
         each.iter().for_each(|&x| print!("{:>10}", number(x)));
         (1..4).for_each(|other| print!("{:>9.2}", each[0] / each[other]));
@@ -347,32 +193,61 @@ fn main() {
             slower.push(job.name.trim().to_string());
         }
     }
-    println!("\nMore than 5 % slower than the faster C: {}", if slower.is_empty() { "nothing".to_string() } else { slower.join("; ") });
+    println!("\nMore than 5 % slower than the faster C: {}", slower.join("; "));
+}
 
+// How a call's cost grows: the call whole, and a share of it.
+fn grows<const N: usize>(what: &str, rounds: usize, counts: [usize; N], job_of: impl Fn(usize) -> Job) {
+    println!("\n{what:<28}{:>10}{:>10}{:>10}", NAMES[0], "each", NAMES[1]);
+    for count in counts {
+        let [ours, clang, ..] = measured(&job_of(count), rounds);
+        println!("{count:<28}{:>10}{:>10.2}{:>10}", number(ours), ours / count.max(1) as f64, number(clang));
+    }
+}
+
+fn growth(rounds: usize) {
     let rc = with(&RUNS, power_on());
-    let samples = |count| steps("", (1..=32).cycle().flat_map(|n| frames(n).concat()).take(count).collect());
+    let stream: Vec<u8> = (1..=32).cycle().flat_map(|n| frames(n).concat()).take(10000).collect();
     let sizes = [1, 2, 4, 8, 16, 32];
-    growth("Samples given to step", rounds, [1, 10, 100, 1000, 10000].map(|n| (n, samples(n))).into());
-    growth("Ticks of advance (RC, time base on)", rounds, [0, 1, 16, 256, 4096, 65535].map(|n| (n, advances("", rc, n as u16))).into());
-    growth("Nibbles of a write", rounds, sizes.map(|n| (n, writes(n))).into());
-    growth("Nibbles of a read", rounds, sizes.map(|n| (n, reads(n))).into());
-    growth("Commands", rounds, sizes.map(|n| (n, commands(n))).into());
-    growth("Nibbles of a decoding", rounds, sizes.map(|n| (n, decodes(n))).into());
-    growth("Bytes of a listing", rounds, [1, 1024, 16384, 65536].map(|n| (n, listings("", false, n))).into());
+    grows("samples stepped", rounds, [1, 10, 100, 1000, 10000], |n| Job {
+        units: 1,
+        ..steps("samples", stream[..n].to_vec())
+    });
+    grows("ticks of advance, RC", rounds, [0, 1, 16, 256, 4096, 65535], |n| advances("ticks", rc, n as u16));
+    grows("nibbles written", rounds, sizes, writes);
+    grows("nibbles read", rounds, sizes, reads);
+    grows("commands", rounds, sizes, commands);
+    grows("nibbles decoded", rounds, sizes, decodes);
+    grows("bytes listed", rounds, [1, 1024, 16384, 65536], |n| listings("listing", false, n));
+}
 
-    println!("\nStack, bytes{:<16}{:>10}{:>10}{:>10}{:>10}", "", NAMES[0], NAMES[1], NAMES[2], NAMES[3]);
-    stacks();
+fn main() {
+    let mut words = std::env::args().skip(1);
+    let rounds = words.next().map_or(101, |word| word.parse().expect("a number of rounds"));
+    let only = words.next().unwrap_or_default();
+    agree::agree_calls(1621);
+    agree::agree_listings();
+    println!("All four agree. Nanoseconds, the median of {rounds} rounds:\n");
+    table(rounds, &only);
+    if only.is_empty() {
+        growth(rounds);
+        stacks();
+    }
 }
 
 type Use = Box<dyn Fn(&Pack) -> u32>;
 
 fn stacks() {
-    let mix: Vec<u8> = (1..=8).flat_map(|count| frames(count).concat()).collect();
+    println!("\n{:<28}{:>10}{:>10}{:>10}{:>10}", "bytes of stack", NAMES[0], NAMES[1], NAMES[2], NAMES[3]);
+    let mix = mixed();
     let uses: [(&str, Use); 4] = [
-        ("step", Box::new(move |pack| {
-            let mut record = power_on();
-            mix.iter().map(|&sample| pack.step(&mut record, sample)).max().unwrap()
-        })),
+        (
+            "step",
+            Box::new(move |pack| {
+                let mut record = power_on();
+                mix.iter().map(|&sample| pack.step(&mut record, sample)).max().unwrap()
+            }),
+        ),
         ("advance", Box::new(|pack| pack.advance(&mut with(&RUNS, power_on()), 5000))),
         ("pins", Box::new(|pack| pack.pins(&power_on(), &mut [0; 32]))),
         ("listing", Box::new(|pack| pack.listing(false))),

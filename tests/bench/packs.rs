@@ -33,9 +33,7 @@ impl Pack {
         unsafe { (self.pins)(record.as_ptr(), record.len(), cells.as_mut_ptr(), cells.len()) }
     }
     pub fn write(&self, first: usize, nibbles: &[u8], out: &mut [u8]) -> u32 {
-        unsafe {
-            (self.write)(first, nibbles.as_ptr(), nibbles.len(), out.as_mut_ptr(), out.len())
-        }
+        unsafe { (self.write)(first, nibbles.as_ptr(), nibbles.len(), out.as_mut_ptr(), out.len()) }
     }
     pub fn read(&self, first: usize, count: usize, out: &mut [u8]) -> u32 {
         unsafe { (self.read)(first, count, out.as_mut_ptr(), out.len()) }
@@ -156,13 +154,7 @@ unsafe extern "C" fn rust_advance(record: *mut u8, bytes: usize, ticks: u16) -> 
 unsafe extern "C" fn rust_pins(r: *const u8, bytes: usize, cells: *mut u8, room: usize) -> u32 {
     plain::pins(lent(r, bytes), lent_mut(cells, room))
 }
-unsafe extern "C" fn rust_write(
-    first: usize,
-    nibbles: *const u8,
-    count: usize,
-    out: *mut u8,
-    room: usize,
-) -> u32 {
+unsafe extern "C" fn rust_write(first: usize, nibbles: *const u8, count: usize, out: *mut u8, room: usize) -> u32 {
     plain::write(first, lent(nibbles, count), lent_mut(out, room))
 }
 unsafe extern "C" fn rust_read(first: usize, count: usize, out: *mut u8, room: usize) -> u32 {
