@@ -37,23 +37,21 @@ fn stepped(record: &[u8], sample: u8) -> Vec<u8> {
     next
 }
 
-// Every call with one record.
-fn agree_on(record: &[u8], sample: u8, ticks: u16) {
-    stepped(record, sample);
-    same("advance", |pack| {
+// Ticks, and then every call; what the ticks made of the record.
+fn ticked(record: &[u8], sample: u8, ticks: u16) -> Vec<u8> {
+    let (_, later) = same("advance", |pack| {
         let mut record = record.to_vec();
         (pack.advance(&mut record, ticks), record)
     });
+    stepped(&later, sample);
     for room in [31, 32, 40] {
-        same("pins", |pack| {
-            let mut cells = vec![0xee; room];
-            (pack.pins(record, &mut cells), cells)
-        });
+        same("pins", |pack| out_of(room, |cells| pack.pins(&later, cells)));
     }
+    later
 }
 
 // Random calls of the host's side, at and beyond their limits; what they stream, with a sample in 50 another one, is stepped;
-// now and then every call is made, and made again with a byte of the record replaced.
+// now and then ticks pass and every call is made, and made again with a byte of the record replaced.
 pub fn agree_calls(seed: u64) {
     let random = &mut Random(seed);
     let mut record = power_on().to_vec();
@@ -80,10 +78,10 @@ pub fn agree_calls(seed: u64) {
                 record = stepped(&record, sample);
                 if random.below(40) == 0 {
                     let ticks = random.below(4000) as u16;
-                    agree_on(&record, sample, ticks);
+                    record = ticked(&record, sample, ticks);
                     let mut broken = record.clone();
-                    broken[random.below(64) as usize] = random.below(20) as u8;
-                    agree_on(&broken[..64 - random.below(9) as usize / 8], sample, ticks);
+                    broken[random.below(64) as usize] = random.below(if ticks % 2 == 0 { 20 } else { 256 }) as u8;
+                    ticked(&broken[..64 - random.below(9) as usize / 8], sample, ticks);
                 }
             }
         }
