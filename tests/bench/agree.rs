@@ -3,6 +3,10 @@ use crate::inputs::{capture, power_on, CODES};
 use crate::packs::{self, packs, Pack, NAMES};
 use std::fmt::Debug;
 use std::process::exit;
+use std::sync::atomic::{AtomicUsize, Ordering::Relaxed};
+
+// How many calls the four agreed on.
+pub static CALLS: AtomicUsize = AtomicUsize::new(0);
 
 struct Random(u64);
 
@@ -19,6 +23,7 @@ impl Random {
 
 // What all four give, or the end of the benchmark.
 fn same<T: PartialEq + Debug>(what: &str, of: impl Fn(&Pack) -> T) -> T {
+    CALLS.fetch_add(1, Relaxed);
     let [ours, others @ ..] = packs().map(of);
     for (name, other) in NAMES[1..].iter().zip(others) {
         if other != ours {

@@ -227,7 +227,8 @@ fn main() {
     let only = words.next().unwrap_or_default();
     agree::agree_calls(1621);
     agree::agree_listings();
-    println!("All four agree. Nanoseconds, the median of {rounds} rounds:\n");
+    let calls = agree::CALLS.load(std::sync::atomic::Ordering::Relaxed);
+    println!("All four agree on {calls} calls. Nanoseconds, the median of {rounds} rounds:\n");
     table(rounds, &only);
     if only.is_empty() {
         growth(rounds);
