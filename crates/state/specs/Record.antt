@@ -7,11 +7,6 @@ use lib.Dec.{ltb, leb, eqb}
 use lib.ListN.{length, getD, take, replicate}
 use Rattle.ground.specs.Bits.{bitNumber}
 use Rattle.commands.specs.Numbers.{biasNumber, commonsNumber}
-use Rattle.commands.specs.declared.Bias.{Bias}
-use Rattle.commands.specs.declared.Commons.{Commons}
-use Rattle.clock.specs.declared.Source.{Source}
-use Rattle.rules.specs.declared.Pitch.{Pitch}
-use Rattle.rules.specs.declared.IrqSource.{IrqSource}
 use Rattle.rules.specs.declared.Settings.{Settings}
 use Rattle.rules.specs.Numbers.{sourceNumber, pitchNumber, irqSourceNumber}
 use Rattle.frames.specs.Samples.{levels}
@@ -104,14 +99,13 @@ recordValid b = eqb (length b) 64 && upTo b maxima && framesRight b && settingsR
 
 -- ---- the chip that valid bytes say
 
--- Its settings, with what the coded bytes among them read to.
-abbrev pub settingsWith : List ℕ → Source → Bias → Commons → Pitch → IrqSource → Settings
-settingsWith b source bias commons pitch irq =
+unfoldable pub settingsOf : List ℕ → Settings
+settingsOf b =
     record {
-      system = record { on = eqb (byte b 40) 1; source = source };
-      lcd = record { on = eqb (byte b 42) 1; bias = bias; commons = commons };
-      tone = record { on = eqb (byte b 45) 1; pitch = pitch };
-      irq = record { on = eqb (byte b 47) 1; source = irq };
+      system = record { on = eqb (byte b 40) 1; source = sourceIn (sourceRead (byte b 41)) };
+      lcd = record { on = eqb (byte b 42) 1; bias = biasIn (biasRead (byte b 43)); commons = commonsIn (commonsRead (byte b 44)) };
+      tone = record { on = eqb (byte b 45) 1; pitch = pitchIn (pitchRead (byte b 46)) };
+      irq = record { on = eqb (byte b 47) 1; source = irqSourceIn (irqSourceRead (byte b 50)) };
       base = record { on = eqb (byte b 49) 1; rate = byte b 48 };
       counters =
           record {
@@ -126,11 +120,6 @@ settingsWith b source bias commons pitch irq =
           };
       test = eqb (byte b 57) 1;
     }
-
-abbrev pub settingsOf : List ℕ → Settings
-settingsOf b =
-    settingsWith b (sourceIn (sourceRead (byte b 41))) (biasIn (biasRead (byte b 43))) (commonsIn (commonsRead (byte b 44)))
-    (pitchIn (pitchRead (byte b 46))) (irqSourceIn (irqSourceRead (byte b 50)))
 
 unfoldable pub chipOf : List ℕ → Chip
 chipOf b =

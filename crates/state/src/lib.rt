@@ -10,7 +10,7 @@ ghost use Rattle.rules.specs.Numbers.{sourceNumber, pitchNumber, irqSourceNumbe
 ghost use Rattle.state.specs.FrameCodes.{phaseRead, lineRead, phaseNumber, valueOf, positionOf, linesNumber};
 ghost use Rattle.state.specs.Selections.{sourceRead, biasRead, commonsRead, pitchRead, irqSourceRead};
 ghost use Rattle.state.specs.Answers.{frameRead, settingsRead, malformed, readOf, writtenAs, writtenOver};
-ghost use Rattle.state.specs.Record.{settingsWith, upTo, maxima, mostBits, goesWithCs, bitsRight, restRight, tailOf};
+ghost use Rattle.state.specs.Record.{upTo, maxima, mostBits, goesWithCs, bitsRight, restRight, tailOf};
 use chip::Chip;
 use chip::Port;
 use clock::BaseCounter;
@@ -347,19 +347,27 @@ fn frame_of(lines: u8, code: u8, count: u8, value: u16, at: u8, position: u8, li
     FrameRead::Framed(phase, driven)
 }
 
-// Bytes 40 to 57, with what the coded ones among them read to.
-fn settings_with(
-    bytes: &[u8],
-    source: Source,
-    bias: Bias,
-    commons: Commons,
-    pitch: Pitch,
-    irq: IrqSource,
-) -> Settings
+// Bytes 40 to 57. All in one function: settings handed out by another would be copied once more.
+fn settings_of(bytes: &[u8]) -> SettingsRead
     requires { ⌜ length (now bytes) ≡ 64 ⌝ }
-    ensures { λ r. ⌜ r ≡ settingsWith (now (bytes .entry)) source bias commons pitch irq ⌝ }
+    ensures { λ r. ⌜ r ≡ settingsRead (now (bytes .entry)) ⌝ }
 {
-    Settings {
+    let SourceRead::From(source) = source_of(bytes[41]) else {
+        return SettingsRead::NoSettings;
+    };
+    let BiasRead::Biased(bias) = bias_of(bytes[43]) else {
+        return SettingsRead::NoSettings;
+    };
+    let CommonsRead::Has(commons) = commons_of(bytes[44]) else {
+        return SettingsRead::NoSettings;
+    };
+    let PitchRead::Sounds(pitch) = pitch_of(bytes[46]) else {
+        return SettingsRead::NoSettings;
+    };
+    let IrqSourceRead::Of(irq) = irq_source_of(bytes[50]) else {
+        return SettingsRead::NoSettings;
+    };
+    SettingsRead::Set(Settings {
         system: System {
             on: bytes[40] == 1,
             source,
@@ -394,30 +402,7 @@ fn settings_with(
             },
         },
         test: bytes[57] == 1,
-    }
-}
-
-// Bytes 40 to 57.
-fn settings_of(bytes: &[u8]) -> SettingsRead
-    requires { ⌜ length (now bytes) ≡ 64 ⌝ }
-    ensures { λ r. ⌜ r ≡ settingsRead (now (bytes .entry)) ⌝ }
-{
-    let SourceRead::From(source) = source_of(bytes[41]) else {
-        return SettingsRead::NoSettings;
-    };
-    let BiasRead::Biased(bias) = bias_of(bytes[43]) else {
-        return SettingsRead::NoSettings;
-    };
-    let CommonsRead::Has(commons) = commons_of(bytes[44]) else {
-        return SettingsRead::NoSettings;
-    };
-    let PitchRead::Sounds(pitch) = pitch_of(bytes[46]) else {
-        return SettingsRead::NoSettings;
-    };
-    let IrqSourceRead::Of(irq) = irq_source_of(bytes[50]) else {
-        return SettingsRead::NoSettings;
-    };
-    SettingsRead::Set(settings_with(bytes, source, bias, commons, pitch, irq))
+    })
 }
 
 // The value of the unfinished bits, low byte first.
