@@ -275,6 +275,24 @@ static void cases(void)
     CHECK(chip[HT1621_AT_B] == 0 && chip[HT1621_AT_W] == 0);
 }
 
+/* A cell shows where the chip runs, the LCD is on, the common is driven, and the memory has a 1; by the commands given so far. */
+static void glass(void)
+{
+    static const struct {
+        uint8_t code, shown;
+    } given[] = {{0x01, 0}, {0x03, 3}, {0x25, 7}, {0x28, 15}, {0x21, 3}, {0x02, 0}, {0x03, 3}, {0x00, 0}};
+    uint8_t memory[HT1621_ADDRESSES], chip[HT1621_RECORD_BYTES], cells[HT1621_ADDRESSES];
+    for (size_t i = 0; i < sizeof memory; i++)
+        memory[i] = (uint8_t)(i * 5 % 16);
+    ht1621_power_on(memory, sizeof memory, chip, sizeof chip);
+    for (size_t k = 0; k < sizeof given / sizeof given[0]; k++) {
+        command(chip, given[k].code);
+        CHECK(!HT1621_PINS_REFUSED(pins(chip, sizeof chip, cells, sizeof cells)));
+        for (size_t i = 0; i < sizeof cells; i++)
+            CHECK(cells[i] == (memory[i] & given[k].shown));
+    }
+}
+
 /* A write stopped after every number of its samples with ticks between: new values in front, old ones behind, settings and
    counters as a twin has them that gets the ticks alone; then resent. */
 static void interrupted(void)
@@ -314,6 +332,7 @@ int main(void)
     streams();
     commands_and_notes();
     cases();
+    glass();
     interrupted();
     printf("host.c: %lu facts of the paper hold of the linked libraries\n", checks);
     return 0;

@@ -8,19 +8,20 @@ use lib.ListN.{length, drop, drop-of-length-le}
 use borrow.Author.Tests.{lt-ltb, le-ltb}
 use Rattle.ground.specs.Written.{over}
 use Rattle.chip.specs.declared.Chip.{Chip}
-use Rattle.chip.specs.declared.Stepped.{Stepped}
 use Rattle.chip.specs.declared.Pins.{Pins}
 use Rattle.chip.specs.Chip.{stepped, advanced}
 use Rattle.chip.specs.Pins.{pinsShown}
 use Rattle.chip.specs.Valid.{Valid}
 use Rattle.chip.proofs.ValidLaws.{stepped-valid, advanced-valid}
+use Rattle.place.specs.declared.Numbered.{Numbered}
+use Rattle.place.specs.Place.{numbered}
 use Rattle.state.specs.declared.Reading.{Reading}
 use Rattle.state.specs.declared.Verdict.the-variants as verdict
 use Rattle.state.specs.Record.{recordValid, recordOf, chipOf}
 use Rattle.state.specs.Answers.{verdictNumber, malformed, readOf, writtenOver}
 use Rattle.state.proofs.TripLaws.{RecordHas, valid-has}
 use Rattle.state.proofs.ChipLaws.{valid-chip, chip-valid}
-use Rattle.simulator.specs.Simulator.{answerCode, pinsCode, stepReturns, stepBytes, advanceReturns, advanceBytes, pinsReturns, pinsBytes}
+use Rattle.simulator.specs.Simulator.{pinsCode, stepReturns, stepBytes, advanceReturns, advanceBytes, pinsReturns, pinsBytes}
 
 -- ---- what was read tells whether the record is valid
 
@@ -72,16 +73,16 @@ module _ (b : List ℕ) (reading : Reading) (e : reading ≡ readOf b) (sample :
   unfolding stepReturns stepBytes
   step-above z h = let v = valid b reading e z in (simp (v, lt-ltb _ _ h), simp (v, lt-ltb _ _ h))
 
-  pub step-taken : (done : Stepped) (code : ℕ) (after : List ℕ) → verdictNumber (reading .answer) ≡ 0 → sample ≤ 15
-      → done ≡ stepped (reading .chip) sample → after ≡ writtenOver (done .chip) b → code ≡ answerCode (done .answer)
-      → (code ≡ stepReturns b sample) × (after ≡ stepBytes b sample)
+  pub step-taken : (done : Numbered) (after : List ℕ) → verdictNumber (reading .answer) ≡ 0 → sample ≤ 15
+      → done ≡ numbered (reading .chip) sample → after ≡ writtenOver (done .chip) b
+      → (done .number ≡ stepReturns b sample) × (after ≡ stepBytes b sample)
   unfolding stepReturns stepBytes
-  step-taken done code after z h d w a =
+  step-taken done after z h d w =
       let v = valid b reading e z in
-      let same : done ≡ stepped (chipOf b) sample = d ∙ ap (λ (c : Chip). stepped c sample) (says b reading e v) in
+      let same : done ≡ numbered (chipOf b) sample = d ∙ ap (λ (c : Chip). numbered c sample) (says b reading e v) in
       let kept = stepped-valid (chipOf b) sample (valid-chip b v) in (
-        a ∙ ap (λ (s : Stepped). answerCode (s .answer)) same ∙ simp (v, le-ltb _ _ h),
-        w ∙ ap (λ (s : Stepped). writtenOver (s .chip) b) same
+        ap (λ (s : Numbered). s .number) same ∙ simp (v, le-ltb _ _ h),
+        w ∙ ap (λ (s : Numbered). writtenOver (s .chip) b) same
             ∙ written-over b (stepped (chipOf b) sample .chip) (valid-has b v .long) kept ∙ simp (v, le-ltb _ _ h),
       )
 

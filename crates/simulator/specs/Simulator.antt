@@ -9,16 +9,12 @@ use Rattle.ground.specs.Bits.{bitNumber}
 use Rattle.ground.specs.declared.Refusal.the-variants.{SampleAbove, OutputShort, Malformed}
 use Rattle.ground.specs.Refusals.{refusalNumber}
 use Rattle.ground.specs.Written.{over}
-use Rattle.frames.specs.declared.Answer.{Answer}
-use Rattle.frames.specs.Answers.{answerNumber, firstDetail, secondDetail, lineNumber}
+use Rattle.frames.specs.Answers.{lineNumber}
 use Rattle.chip.specs.declared.Pins.{Pins}
 use Rattle.chip.specs.Chip.{stepped, advanced}
 use Rattle.chip.specs.Pins.{pinsShown}
+use Rattle.place.specs.Place.{answerCode}
 use Rattle.state.specs.Record.{recordValid, recordOf, chipOf}
-
--- An answer with its two details.
-unfoldable pub answerCode : Answer → ℕ
-answerCode answer = answerNumber answer + 256 * firstDetail answer + 65536 * secondDetail answer
 
 -- IRQ low, BZ high, its partner high, and byte 39.
 unfoldable pub pinsCode : Pins → ℕ

@@ -5,9 +5,9 @@ ghost use Prim.Native.Nat.{_≤_};
 ghost use lib.ListN.{length};
 ghost use Rattle.ground.specs.Written.{over};
 ghost use Rattle.state.specs.Answers.{verdictNumber};
-ghost use Rattle.simulator.specs.Simulator.{answerCode, pinsCode, stepReturns, stepBytes, advanceReturns, advanceBytes, pinsReturns, pinsBytes};
+ghost use Rattle.simulator.specs.Simulator.{stepReturns, stepBytes, advanceReturns, advanceBytes};
+ghost use Rattle.simulator.specs.Simulator.{pinsCode, pinsReturns, pinsBytes};
 use chip::Pins;
-use frames::Answer;
 use ground::Refusal;
 use state::Verdict;
 
@@ -19,16 +19,6 @@ fn refused_by(verdict: Verdict) -> u32
         Verdict::Valid => 0,
         Verdict::Refused(refusal) => refusal.number() as u32,
     }
-}
-
-// An answer and its two details as one number.
-fn code_of(answer: Answer) -> u32
-    ensures { λ r. ⌜ r ≡ answerCode answer ⌝ }
-{
-    let number = answers::number_of(answer);
-    let first = answers::first_detail(answer);
-    let second = answers::second_detail(answer);
-    number as u32 + 256 * (first as u32) + 65536 * (second as u32)
 }
 
 // The pins as one number.
@@ -55,7 +45,8 @@ fn show(cells: [u8; 32], out: &mut [u8])
 // A sample: returns its answer + 256 x first detail + 65,536 x second.
 #[no_mangle]
 pub extern "C" fn step(bytes: &mut [u8], sample: u8) -> u32
-    ensures { λ r. ⌜ (r ≡ stepReturns (now (bytes .entry)) sample) × (now (bytes .exit) ≡ stepBytes (now (bytes .entry)) sample) ⌝ }
+    ensures { λ r. ⌜ (r ≡ stepReturns (now (bytes .entry)) sample)
+        × (now (bytes .exit) ≡ stepBytes (now (bytes .entry)) sample) ⌝ }
 {
     let reading = state::read(bytes);
     let verdict = reading.answer;
@@ -67,17 +58,17 @@ pub extern "C" fn step(bytes: &mut [u8], sample: u8) -> u32
         return 20;
     }
     let chip = reading.chip;
-    let stepped = chip.step(sample);
-    let answer = stepped.answer;
-    let next = stepped.chip;
+    let done = place::via_place(chip, sample);
+    let next = done.chip;
     state::write(next, bytes);
-    code_of(answer)
+    done.number
 }
 
 // So many single ticks: returns 0.
 #[no_mangle]
 pub extern "C" fn advance(bytes: &mut [u8], n: u16) -> u32
-    ensures { λ r. ⌜ (r ≡ advanceReturns (now (bytes .entry))) × (now (bytes .exit) ≡ advanceBytes (now (bytes .entry)) n) ⌝ }
+    ensures { λ r. ⌜ (r ≡ advanceReturns (now (bytes .entry)))
+        × (now (bytes .exit) ≡ advanceBytes (now (bytes .entry)) n) ⌝ }
 {
     let reading = state::read(bytes);
     let verdict = reading.answer;
@@ -94,7 +85,8 @@ pub extern "C" fn advance(bytes: &mut [u8], n: u16) -> u32
 // The pins: returns them as one number, and writes the cells that show as 32 nibbles.
 #[no_mangle]
 pub extern "C" fn pins(bytes: &[u8], out: &mut [u8]) -> u32
-    ensures { λ r. ⌜ (r ≡ pinsReturns (now (bytes .entry)) (now (out .entry))) × (now (out .exit) ≡ pinsBytes (now (bytes .entry)) (now (out .entry))) ⌝ }
+    ensures { λ r. ⌜ (r ≡ pinsReturns (now (bytes .entry)) (now (out .entry)))
+        × (now (out .exit) ≡ pinsBytes (now (bytes .entry)) (now (out .entry))) ⌝ }
 {
     let reading = state::read(bytes);
     let verdict = reading.answer;

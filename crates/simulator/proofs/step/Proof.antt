@@ -33,29 +33,26 @@ returns-2 c =
     step-above (start .args .bytes .now) (read .read .result) (read .read .ensures) (start .args .sample)
     (sym (tested .before .refused-by .ensures) ∙ tested .if1 .left) (c .if2 .taken)
 
-step-requires : tie.Need-step-requires
-step-requires c κs = search needs
+via-place-requires : tie.Need-via-place-requires
+via-place-requires c κs = search needs
 
 write-requires : tie.Need-write-requires
 write-requires c κs = search needs
-
-code-of-requires : tie.Need-code-of-requires
-code-of-requires c κs = search needs
 
 same-length-3 : tie.Need-same-length-3
 same-length-3 c = search needs
 
 returns-3 : tie.Need-returns-3
 returns-3 c =
-    let written = c .before .before .before in
+    let written = c .before .before in
     let taken = written .before .before .before in
     let low = taken .before .before in
     let tested = low .before in
     let read = tested .before .before in
     let start = read .before .before .before in
-    step-taken (start .args .bytes .now) (read .read .result) (read .read .ensures) (start .args .sample) (taken .step .result) _ _
-    (sym (tested .before .refused-by .ensures) ∙ tested .if1 .left) (low .if2 .left) (taken .step .ensures)
-    (written .write .ensures .1) (c .code-of .ensures)
+    step-taken (start .args .bytes .now) (read .read .result) (read .read .ensures) (start .args .sample) (taken .via-place .result) _
+    (sym (tested .before .refused-by .ensures) ∙ tested .if1 .left) (low .if2 .left) (taken .via-place .ensures)
+    (written .write .ensures .1)
 
 pub step-spec : {M : Type 1} → statement M
 step-spec =
@@ -67,8 +64,7 @@ step-spec =
     returns
     same-length-2
     returns-2
-    step-requires
+    via-place-requires
     write-requires
-    code-of-requires
     same-length-3
     returns-3)

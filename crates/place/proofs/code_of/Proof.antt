@@ -1,8 +1,8 @@
--- `simulator::code_of` meets its contract. Assumes nothing.
-use Rattle.simulator.specs.Simulator.{answerCode}
+-- `place::code_of` meets its contract. Assumes nothing.
+use Rattle.place.specs.Place.{answerCode}
 use borrow.Author.Needs.{needs}
-use Rattle.simulator.proofs.code_of.Statement.{statement}
-use Rattle.simulator.proofs.code_of.Tie as tie
+use Rattle.place.proofs.code_of.Statement.{statement}
+use Rattle.place.proofs.code_of.Tie as tie
 
 number-of-requires : tie.Need-number-of-requires
 number-of-requires c κs = search needs
