@@ -1,6 +1,6 @@
 /* The eight exported calls under a fuzzer. An input is a program for them: a byte that says what to do and the bytes that it
-   takes with it. Each call is made on lent bytes that stand between guards, and once more by the model on a copy: the result and
-   every lent byte have to be the same, and the guards as they were. */
+   takes with it. Each call is made on lent bytes that stand between guards, and once more by the model on a copy: the result
+   and every lent byte have to be the same, and the guards as they were. */
 #include <sanitizer/asan_interface.h>
 #include <stdint.h>
 #include <stdio.h>
@@ -10,7 +10,9 @@
 #include "ht1621_host.h"
 #include "ht1621_simulator.h"
 
-enum { STEP, ADVANCE, PINS, POWER_ON, WRITE, READ, COMMANDS, DECODE, /* and of the program: */ PLAY, SET, LENGTH, KINDS };
+/* The calls, as model_calls.rs numbers them; and what else a program can say: to give the chip samples of the stream that was
+   made last, to set a byte of the record, and to lend the record as so many bytes. */
+enum { STEP, ADVANCE, PINS, POWER_ON, WRITE, READ, COMMANDS, DECODE, PLAY, SET, LENGTH, KINDS };
 static const char *const names[] = {"step", "advance", "pins", "ht1621_power_on", "ht1621_write", "ht1621_read",
                                     "ht1621_commands", "ht1621_decode"};
 

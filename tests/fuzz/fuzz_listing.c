@@ -1,8 +1,8 @@
-/* The listing program under a fuzzer. Its main, and the read and write that it calls, are renamed, so that it reads a capture from
-   memory and writes its listing there, in pieces of all sizes; the listing has to be the model's.
+/* The listing program under a fuzzer. Its main, and the read and write that it calls, are renamed, so that it reads a capture
+   from memory and writes its listing there, in pieces of all sizes; the listing has to be the model's.
 
-   An input is the capture. If its last byte is above 247 it is taken off, and the capture is what stands before it 2, 4, 8 .. 256
-   times, so that a small file reaches the limit of 65,536 bytes. */
+   An input is the capture. If its last byte is above 247 it is taken off, and the capture is what stands before it 2, 4, 8 ..
+   256 times, so that a small file reaches the limit of 65,536 bytes. */
 #include <stdint.h>
 #include <stdio.h>
 #include <stdlib.h>
