@@ -3,15 +3,17 @@
 // run:   ./compare [--samples N] [--seed N] [--only CHECK]
 // The first call that differs is printed on one line and ends the run with status 1.
 
+mod due;
 mod model;
 
+use due::{answer_number, Outcome};
 use model::Model;
 
 // A buffer lent to a call stands between guard bytes, and every call is judged:
 // the guards stand, what is only read is unchanged, a refusal changes no byte and
 // a success no byte past what it wrote. All unsafe code is in this module.
 mod lent {
-    use super::{hex, wrong};
+    use super::{hex, wrong, Outcome};
 
     mod c {
         extern "C" {
@@ -39,9 +41,6 @@ mod lent {
         bytes: Vec<u8>,
         before: Vec<u8>,
     }
-
-    /// What a call returned, and the bytes lent to it afterwards.
-    pub type Outcome = (u32, Vec<u8>);
 
     // The bytes that a buffer for output holds before a call: none of them is a
     // sample, a nibble or a bit.
@@ -253,7 +252,7 @@ mod lent {
     }
 }
 
-use lent::{fill, Outcome};
+use lent::fill;
 
 // Prints a line that tells a wrong call and ends the run.
 fn wrong(line: &str) -> ! {
@@ -317,65 +316,6 @@ impl Dice {
     }
 }
 
-// What the paper promises of a step.
-fn step_due(record: &[u8], sample: u8) -> Outcome {
-    let Some(mut chip) = Model::from_record(record) else {
-        return (28, record.to_vec());
-    };
-    match chip.sample(sample) {
-        Ok(answer) => (answer_number(answer), chip.record().to_vec()),
-        Err(refusal) => (refusal as u32, record.to_vec()),
-    }
-}
-
-// An answer as step returns it.
-fn answer_number((answer, first, second): (u8, u8, u8)) -> u32 {
-    answer as u32 + 256 * first as u32 + 65_536 * second as u32
-}
-
-// What the paper promises of an advance.
-fn advance_due(record: &[u8], ticks: u16) -> Outcome {
-    let Some(mut chip) = Model::from_record(record) else {
-        return (28, record.to_vec());
-    };
-    chip.advance(ticks);
-    (0, chip.record().to_vec())
-}
-
-// What the paper promises of the pins.
-fn pins_due(record: &[u8], out_len: usize) -> Outcome {
-    let Some(chip) = Model::from_record(record) else {
-        return (28, fill(out_len));
-    };
-    if out_len < 32 {
-        return (25, fill(out_len));
-    }
-    let (sum, cells) = chip.pins();
-    (sum, written_first(&cells, out_len))
-}
-
-// Bytes written at the front of a buffer of a length.
-fn written_first(bytes: &[u8], out_len: usize) -> Vec<u8> {
-    let mut out = fill(out_len);
-    out[..bytes.len()].copy_from_slice(bytes);
-    out
-}
-
-// What the paper promises of a call of the host.
-fn host_due(result: Result<Vec<u8>, (u8, u64)>, out_len: usize) -> Outcome {
-    match result {
-        Ok(bytes) => (bytes.len() as u32, written_first(&bytes, out_len)),
-        Err((refusal, place)) => ((1 << 31) + 256 * place as u32 + refusal as u32, fill(out_len)),
-    }
-}
-
-// What the paper promises of power-on.
-fn power_on_due(memory: &[u8], record_len: usize) -> Outcome {
-    let record = model::power_on(memory).map(|chip| chip.record().to_vec());
-    let fitted = record.and_then(|bytes| if record_len < 64 { Err((25, 0)) } else { Ok(bytes) });
-    host_due(fitted, record_len)
-}
-
 /// Counts comparisons; its methods compare one call each with the model.
 struct Tally {
     count: u64,
@@ -410,7 +350,7 @@ impl Tally {
     // One step.
     fn step(&mut self, record: &[u8], sample: u8) -> Outcome {
         let got = lent::step(record, sample);
-        self.same(step_due(record, sample), got.clone(), &|| {
+        self.same(due::step(record, sample), got.clone(), &|| {
             format!("step record={} sample={}", hex(record), sample)
         });
         got
@@ -419,7 +359,7 @@ impl Tally {
     // One advance.
     fn advance(&mut self, record: &[u8], ticks: u16) -> Outcome {
         let got = lent::advance(record, ticks);
-        self.same(advance_due(record, ticks), got.clone(), &|| {
+        self.same(due::advance(record, ticks), got.clone(), &|| {
             format!("advance record={} n={}", hex(record), ticks)
         });
         got
@@ -428,7 +368,7 @@ impl Tally {
     // One look at the pins.
     fn pins(&mut self, record: &[u8], out_len: usize) -> Outcome {
         let got = lent::pins(record, out_len);
-        self.same(pins_due(record, out_len), got.clone(), &|| {
+        self.same(due::pins(record, &fill(out_len)), got.clone(), &|| {
             format!("pins record={} out_len={}", hex(record), out_len)
         });
         got
@@ -436,7 +376,7 @@ impl Tally {
 
     // One write asked of the host.
     fn write(&mut self, first: usize, nibbles: &[u8], out_len: usize) -> Outcome {
-        let due = host_due(model::write(first as u64, nibbles, out_len), out_len);
+        let due = due::write(first, nibbles, &fill(out_len));
         let got = lent::write(first, nibbles, out_len);
         self.same(due, got.clone(), &|| {
             format!(
@@ -451,7 +391,7 @@ impl Tally {
 
     // One read asked of the host.
     fn read(&mut self, first: usize, count: usize, out_len: usize) -> Outcome {
-        let due = host_due(model::read(first as u64, count as u64, out_len), out_len);
+        let due = due::read(first, count, &fill(out_len));
         let got = lent::read(first, count, out_len);
         self.same(due, got.clone(), &|| {
             format!("ht1621_read first={} count={} out_len={}", first, count, out_len)
@@ -461,7 +401,7 @@ impl Tally {
 
     // Commands asked of the host.
     fn commands(&mut self, codes: &[u8], out_len: usize) -> Outcome {
-        let due = host_due(model::commands(codes, out_len), out_len);
+        let due = due::commands(codes, &fill(out_len));
         let got = lent::commands(codes, out_len);
         self.same(due, got.clone(), &|| {
             format!("ht1621_commands codes={} out_len={}", hex(codes), out_len)
@@ -471,7 +411,7 @@ impl Tally {
 
     // Noted bytes given to the host.
     fn decode(&mut self, noted: &[u8], out_len: usize) -> Outcome {
-        let due = host_due(model::decode(noted, out_len), out_len);
+        let due = due::decode(noted, &fill(out_len));
         let got = lent::decode(noted, out_len);
         self.same(due, got.clone(), &|| {
             format!("ht1621_decode noted={} out_len={}", hex(noted), out_len)
@@ -482,7 +422,7 @@ impl Tally {
     // One power-on.
     fn power_on(&mut self, memory: &[u8], record_len: usize) -> Outcome {
         let got = lent::power_on(memory, record_len);
-        self.same(power_on_due(memory, record_len), got.clone(), &|| {
+        self.same(due::power_on(memory, &fill(record_len)), got.clone(), &|| {
             format!("ht1621_power_on memory={} record_len={}", hex(memory), record_len)
         });
         got
