@@ -11,7 +11,7 @@ use Rattle.ground.specs.declared.Refusal.the-variants.{OutputShort, NotedCount,
 use Rattle.ground.specs.Refusals.{refusalNumber, refusalPlace}
 use Rattle.ground.specs.Places.{lowest, somewhere}
 use Rattle.ground.specs.Written.{over}
-pub use Rattle.commands.specs.Commands.{commandFault}
+unfoldable pub use Rattle.commands.specs.Commands.{commandFault}
 use Rattle.driver.specs.declared.Answer.{Answer}
 use Rattle.driver.specs.declared.Answer.the-variants.{Written, Refused}
 use Rattle.driver.specs.Streams.{writeStream, readStream, commandStream, decoded}
