@@ -15,5 +15,6 @@ commons-number-determined κs args x y end end' p q = p ∙ sym q
 pub meaning-determined : Determined 0 meaning-kinds.ps meaning-kinds.r meaning-reads.Post
 meaning-determined κs args x y end end' p q = p ∙ sym q
 
-pub first-undefined-determined : Determined 1 first-undefined-kinds.ps first-undefined-kinds.r first-undefined-reads.Post
+pub first-undefined-determined : Determined 1 first-undefined-kinds.ps first-undefined-kinds.r
+    first-undefined-reads.Post
 first-undefined-determined κs args x y end end' p q = p ∙ sym q

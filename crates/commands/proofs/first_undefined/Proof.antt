@@ -1,4 +1,5 @@
--- `commands::first_undefined` meets its contract: the codes before `i` have passed. Assumes nothing.
+-- `commands::first_undefined` meets its contract: the codes before `i` have passed, by the table, which passes the test
+-- of the pattern rule. Assumes nothing.
 use mathlib.Core.Path.{_≡_, refl}
 use Prim.Native.Nat.{_-_, _<_}
 use native.Mathlib.Omega.{arith}
@@ -52,7 +53,8 @@ loop-again c =
     let turn = c .before .before .before in
     let code = getD (turn .before .args .codes .now) (turn .loop .i) 0 in
     let less : code < 256 = omega (arith, c .before .shared-slice-known .given (turn .loop .i)) in
-    (turn .loop .inv .0, searched-passes (turn .loop .inv .1) (omega arith) (not-at-fault _ code (turn .loop .inv .0) less (c .if1 .left)))
+    let fine = not-at-fault _ code (turn .loop .inv .0) less (c .if1 .left) in
+    (turn .loop .inv .0, searched-passes (turn .loop .inv .1) (omega arith) fine)
 
 returns-2 : tie.Need-returns-2 Inv-loop μ-loop
 returns-2 c = searched-ends (c .before .loop .inv .1) (c .loop-test .left)
