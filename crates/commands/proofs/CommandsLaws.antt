@@ -1,9 +1,10 @@
 -- Laws of 01's "Commands". Assumes nothing.
 use mathlib.Core.Path.{_≡_, refl}
 use mathlib.Core.Bool.{_||_}
-use Prim.Native.Nat.{ℕ, zero, suc, _/_, _<_}
+use Prim.Native.Nat.{ℕ, zero, suc, _*_, _/_, _<_}
 use native.Mathlib.Omega.{arith}
 use lib.Dec.{eqb, ltb}
+use borrow.Author.Tests.{le-ltb}
 use Rattle.ground.proofs.ChoiceLaws.{either}
 use Rattle.commands.specs.declared.Bias.the-variants.{Half, Third}
 use Rattle.commands.specs.declared.Commons.the-variants.{Two, Three, Four}
@@ -11,7 +12,7 @@ use Rattle.commands.specs.declared.Command.{Command}
 use Rattle.commands.specs.declared.Command.the-variants.{SysDis, SysEn, LcdOff, LcdOn, TimerDis, WdtDis, TimerEn, WdtEn, ToneOff, ToneOn, ClrTimer, ClrWdt, Xtal32k, Rc256k, Ext256k, BiasCom, Tone4k, Tone2k, IrqDis, IrqEn, Rate, Test, Normal}
 use Rattle.commands.specs.declared.Decoded.{Decoded}
 use Rattle.commands.specs.declared.Decoded.the-variants.{Undefined, Means}
-use Rattle.commands.specs.Commands.{within, biasBy, commonsBy, byteMeaning, codeMeaning, undefined, below, Proper, ProperMeaning}
+use Rattle.commands.specs.Commands.{within, biasBy, commonsBy, byteMeaning, codeMeaning, undefined, commandFault, below, Proper, ProperMeaning}
 use Rattle.commands.specs.Numbers.{commandNumber}
 
 -- 88 upper bytes are undefined
@@ -23,6 +24,13 @@ undefined-bytes = refl
 pub undefined-codes : below 512 (λ code. undefined (codeMeaning code)) ≡ 176
 unfolding byteMeaning codeMeaning
 undefined-codes = refl
+
+-- a command asked for by a byte is at fault where that byte has no meaning
+pub byte-fault : (code : ℕ) → code < 256 → commandFault code ≡ undefined (byteMeaning code)
+unfolding commandFault codeMeaning
+byte-fault code h =
+    let half : 2 * code / 2 ≡ code = omega arith in
+    simp (le-ltb 511 (2 * code) (omega arith), half)
 
 -- the number of a command is a code that means it
 pub number-means : (command : Command) → Proper command → byteMeaning (commandNumber command) ≡ Means command

@@ -3,7 +3,7 @@
 use mathlib.Core.Path.{_≡_, _∙_, refl, sym, ap}
 use mathlib.Core.Bool.{Bool, true, false, cond}
 use mathlib.Core.List.{List, [], _∷_}
-use Prim.Native.Nat.{ℕ, _%_, _<_}
+use Prim.Native.Nat.{ℕ, _*_, _%_, _<_}
 use native.Mathlib.Decide.{decLt}
 use native.Mathlib.Omega.{arith}
 use lib.Dec.{eqb}
@@ -15,7 +15,7 @@ use Rattle.commands.specs.declared.Command.{Command}
 use Rattle.commands.specs.declared.Command.the-variants.{SysDis, SysEn, LcdOff, LcdOn, TimerDis, WdtDis, TimerEn, WdtEn, ToneOff, ToneOn, ClrTimer, ClrWdt, Xtal32k, Rc256k, Ext256k, BiasCom, Tone4k, Tone2k, IrqDis, IrqEn, Rate, Test, Normal}
 use Rattle.commands.specs.declared.Decoded.{Decoded}
 use Rattle.commands.specs.declared.Decoded.the-variants.{Undefined, Means}
-use Rattle.commands.specs.Commands.{within, byteMeaning, codeMeaning}
+use Rattle.commands.specs.Commands.{within, byteMeaning, codeMeaning, undefined, commandFault}
 use Rattle.commands.specs.Numbers.{decodedNumber}
 use Rattle.ground.specs.Values.{values, values-at, agree}
 
@@ -92,3 +92,23 @@ either code (no h) = simp (past-undefined code (omega arith))
 -- whoever knows the number that the rule gives a code knows its meaning
 pub named-ruled : (code n : ℕ) → n ≡ ruled code → named n ≡ codeMeaning code
 named-ruled code n e = ap named e ∙ either code (decLt code 512)
+
+-- ---- the numbers of commands asked for by a byte
+
+-- what has another number than 255 is a command
+defined : (d : Decoded) → (decodedNumber d ≡ 0xFF → ⊥) → undefined d ≡ false
+defined Undefined not = absurd (not refl)
+defined (Means command) not = refl
+
+module _ (table : List ℕ) (code : ℕ) (same : table ≡ values ruled 0 512) (h : code < 256) where
+  entry : getD table (2 * code) 0 ≡ ruled (2 * code)
+  entry = table-follows table same (2 * code) (omega arith)
+
+  -- a command is at fault where its entry is 255, and only there
+  pub at-fault : getD table (2 * code) 0 ≡ 0xFF → commandFault code ≡ true
+  unfolding commandFault
+  at-fault e = ap undefined (sym (named-ruled (2 * code) 0xFF (sym e ∙ entry)))
+
+  pub not-at-fault : (getD table (2 * code) 0 ≡ 0xFF → ⊥) → commandFault code ≡ false
+  unfolding commandFault
+  not-at-fault not = defined (codeMeaning (2 * code)) (λ e. not (entry ∙ e))

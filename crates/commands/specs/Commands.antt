@@ -1,5 +1,5 @@
 -- 01 "Commands": what each nine-bit code means. Assumes nothing.
-use Prim.Native.Nat.{ℕ, zero, suc, _+_, _/_, _%_, _<_}
+use Prim.Native.Nat.{ℕ, zero, suc, _+_, _*_, _/_, _%_, _<_}
 use mathlib.Core.Bool.{Bool, true, false, cond, _&&_, _||_}
 use lib.Dec.{eqb, leb, ltb}
 use Rattle.commands.specs.declared.Bias.{Bias}
@@ -64,6 +64,10 @@ below (suc n) test = cond (test n) 1 0 + below n test
 abbrev pub undefined : Decoded → Bool
 undefined Undefined = true
 undefined (Means command) = false
+
+-- A command is asked for by the byte of its upper eight bits, and the ninth is 0.
+unfoldable pub commandFault : ℕ → Bool
+commandFault code = undefined (codeMeaning (2 * code))
 
 -- A command that a code can mean: a rate is one of the eight.
 abbrev pub Proper : Command → Type 0

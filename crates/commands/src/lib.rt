@@ -1,6 +1,7 @@
 // What a command code means.
 ghost use mathlib.Core.Path.{_≡_};
-ghost use Rattle.commands.specs.Commands.{codeMeaning};
+ghost use Rattle.ground.specs.Places.{lowest};
+ghost use Rattle.commands.specs.Commands.{codeMeaning, commandFault};
 ghost use Rattle.commands.specs.Numbers.{commonsNumber, decodedNumber};
 
 mod table; // table.rt: the 512 entries
@@ -111,4 +112,20 @@ pub fn meaning(code: u16) -> Decoded
         0xe3 => Decoded::Means(Command::Normal),
         _ => Decoded::Undefined,
     }
+}
+
+// The lowest place of a byte that is the upper eight bits of no command; the number of bytes where there is none.
+pub fn first_undefined(codes: &[u8]) -> usize
+    ensures { λ r. ⌜ r ≡ lowest commandFault (now (codes .entry)) ⌝ }
+{
+    let numbers = table::NUMBERS; // once for all the codes: a const array is made anew at each use
+    let mut i: usize = 0;
+    while i < codes.len() {
+        let at = 2 * (codes[i] as usize);
+        if numbers[at] == 0xff {
+            return i;
+        }
+        i += 1;
+    }
+    i
 }

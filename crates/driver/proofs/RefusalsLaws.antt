@@ -1,24 +1,17 @@
 -- Laws of the refusals: the ranges, and what a call owes where it is refused or not.
 -- Assumes nothing.
 use mathlib.Core.Path.{_≡_, _∙_, refl, sym, ap}
-use mathlib.Core.Bool.{Bool, true, false, cond, not, _||_, true≢false}
-use mathlib.Core.List.{List, [], _∷_}
-use Prim.Native.Nat.{ℕ, zero, suc, _+_, _*_, _/_, _%_, _≤_, _<_}
-use native.Mathlib.Decide.{decLt}
-use native.Mathlib.Omega.{arith}
-use native.Mathlib.Nat.{le-of-suc-le-suc, not-suc-le-zero}
-use native.Mathlib.Numerals.{add-one}
+use mathlib.Core.Bool.{Bool, true, false, not, _||_, true≢false}
+use mathlib.Core.List.{List}
+use Prim.Native.Nat.{ℕ, _+_, _%_, _≤_}
 use lib.Dec.{eqb, ltb}
-use lib.ListN.{length, drop, getD, drop-of-length-le}
-use lib.Seq.{drop-cons}
-use borrow.Author.Tests.{lt-ltb, le-ltb, ltb-false, eqb-true}
+use lib.ListN.{length}
+use borrow.Author.Tests.{ltb-false, eqb-true}
 use Rattle.ground.specs.declared.Refusal.{Refusal}
 use Rattle.ground.specs.Written.{over}
-use Rattle.commands.specs.Commands.{byteMeaning, codeMeaning, undefined}
 use Rattle.driver.specs.declared.Answer.{Answer}
 use Rattle.driver.specs.declared.Answer.the-variants.{Written, Refused}
-use Rattle.ground.specs.Places.{lowest}
-use Rattle.driver.specs.Refusals.{outsideMemory, miscounted, commandFault, Does}
+use Rattle.driver.specs.Refusals.{outsideMemory, miscounted, Does}
 
 -- ---- ranges
 
@@ -43,15 +36,6 @@ in-fours count e = last (eqb count 0) (ltb 128 count) (eqb (count % 4) 0) refl e
     last false true d p e = absurd (true≢false e)
     last false false true p e = eqb-true (count % 4) 0 p
     last false false false p e = absurd (true≢false e)
-
--- ---- commands
-
--- a command asked for by a byte is at fault where that byte has no meaning
-pub byte-fault : (code : ℕ) → code < 256 → commandFault code ≡ undefined (byteMeaning code)
-unfolding commandFault codeMeaning
-byte-fault code h =
-    let half : 2 * code / 2 ≡ code = omega arith in
-    simp (le-ltb 511 (2 * code) (omega arith), half)
 
 -- ---- what a call owes
 

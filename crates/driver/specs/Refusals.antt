@@ -1,8 +1,8 @@
 -- 01 "Driver streams", its table of refusals: what each call answers, and the bytes it leaves. Assumes nothing.
-use Prim.Native.Nat.{ℕ, zero, suc, _+_, _*_, _%_}
+use Prim.Native.Nat.{ℕ, _+_, _%_}
 use mathlib.Core.Path.{_≡_}
-use mathlib.Core.Bool.{Bool, true, false, cond, not, _||_}
-use mathlib.Core.List.{List, [], _∷_}
+use mathlib.Core.Bool.{Bool, cond, not, _||_}
+use mathlib.Core.List.{List}
 use lib.Dec.{eqb, ltb}
 use lib.ListN.{length}
 use Rattle.ground.specs.declared.Refusal.{Refusal}
@@ -11,7 +11,7 @@ use Rattle.ground.specs.declared.Refusal.the-variants.{OutputShort, NotedCount,
 use Rattle.ground.specs.Refusals.{refusalNumber, refusalPlace}
 use Rattle.ground.specs.Places.{lowest, somewhere}
 use Rattle.ground.specs.Written.{over}
-use Rattle.commands.specs.Commands.{codeMeaning, undefined}
+unfoldable pub use Rattle.commands.specs.Commands.{commandFault}
 use Rattle.driver.specs.declared.Answer.{Answer}
 use Rattle.driver.specs.declared.Answer.the-variants.{Written, Refused}
 use Rattle.driver.specs.Streams.{writeStream, readStream, commandStream, decoded}
@@ -43,10 +43,6 @@ nibbleFault nibble = ltb 15 nibble
 
 abbrev pub notedFault : ℕ → Bool
 notedFault noted = ltb 1 noted
-
--- A command is asked for by the byte of its upper eight bits, and the ninth is 0.
-unfoldable pub commandFault : ℕ → Bool
-commandFault code = undefined (codeMeaning (2 * code))
 
 -- Noted bytes come in fours, 32 fours at most.
 unfoldable pub miscounted : ℕ → Bool

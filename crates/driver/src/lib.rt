@@ -78,7 +78,7 @@ pub fn commands(codes: &[u8], out: &mut [u8]) -> Answer
     if 32 < codes.len() {
         return Answer::Refused(Refusal::OutOfRange);
     }
-    let place = faults::first_undefined(codes);
+    let place = commands::first_undefined(codes);
     if place < codes.len() {
         return Answer::Refused(Refusal::UndefinedCommand(place));
     }
