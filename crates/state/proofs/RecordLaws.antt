@@ -1,14 +1,14 @@
 -- Laws that the proofs of this crate's functions cite: ranges, the power of a count, bytes put over a buffer, and what
 -- reading found. Assumes nothing.
 use mathlib.Core.Path.{_≡_, _∙_, refl, sym, ap}
-use mathlib.Core.Bool.{Bool, true, false, cond}
+use mathlib.Core.Bool.{Bool, true, false, cond, _&&_}
 use mathlib.Core.List.{List, [], _∷_, _++_, append-nil}
 use Prim.Native.Nat.{ℕ, zero, suc, _+_, _*_, _/_, _^_, _≤_, _<_, min}
 use native.Mathlib.Omega.{arith}
 use native.Mathlib.Nat.{div-eq-of-lt, div-lt-iff-lt-mul, zero-add, one-mul}
 use native.Mathlib.Numerals.{add-one}
 use lib.Dec.{ltb, leb, eqb}
-use lib.ListN.{length, take, drop, getD, set, replicate, length-append, drop-of-length-le}
+use lib.ListN.{length, take, drop, getD, set, replicate, getD-replicate, length-append, drop-of-length-le}
 use lib.Pow.{pow-pos}
 use lib.Seq.{paste, paste-suc, length-paste, drop-cons}
 use borrow.Author.Tests.{ltb-true, ltb-false, lt-ltb, le-ltb, le-leb, lt-leb, eq-eqb, ne-eqb}
@@ -43,6 +43,53 @@ module _ (bytes most : List ℕ) (i : ℕ) where
   pub upTo-ends : length bytes ≤ i → upTo (drop i bytes) (drop i most) ≡ true
   unfolding upTo
   upTo-ends h = rw (drop-of-length-le bytes h)
+
+-- the maxima in two parts: the first, and the second for the bytes that follow
+upTo-split : (bytes first second : List ℕ)
+    → upTo bytes (first ++ second) ≡ (upTo bytes first && upTo (drop (length first) bytes) second)
+unfolding upTo
+upTo-split [] [] second = refl
+upTo-split (b ∷ bytes) [] second = refl
+upTo-split [] (maximum ∷ first) second = refl
+upTo-split (b ∷ bytes) (maximum ∷ first) second =
+    by (leb b maximum) _ _ _ (upTo-split bytes first second)
+  where
+    by : (t u v w : Bool) → u ≡ (v && w) → (t && u) ≡ ((t && v) && w)
+    by true u v w e = e
+    by false u v w e = refl
+
+-- the memory first, and then the rest
+pub upTo-parts : (bytes : List ℕ) (t : Bool) → t ≡ upTo bytes (replicate 32 15)
+    → (t && upTo (drop 32 bytes) (drop 32 maxima)) ≡ upTo bytes maxima
+upTo-parts bytes t e =
+    ap (λ (u : Bool). u && upTo (drop 32 bytes) (drop 32 maxima)) e ∙ sym (upTo-split bytes (replicate 32 15) (drop 32 maxima))
+
+-- one nibble more: what was found before it, and it, decide with the rest
+module _ (bytes : List ℕ) (i : ℕ) (long : length bytes ≡ 64) (more : i < 32) (right : Bool) where
+  abbrev from : ℕ → Bool
+  from k = upTo (drop k bytes) (drop k (replicate 32 15))
+
+  pub nibble-found : (t : Bool) → 15 < getD bytes i 0 → t ≡ false → (t && from (i + 1)) ≡ (right && from i)
+  nibble-found t lt e =
+      rw (e, upTo-fails bytes (replicate 32 15) i (omega (arith, long)) more (rw (getD-replicate {A = ℕ} 32 i 15 0 more) lt)) (by right)
+    where
+      by : (u : Bool) → false ≡ (u && false)
+      by true = refl
+      by false = refl
+
+  pub nibble-passed : (t : Bool) → getD bytes i 0 ≤ 15 → t ≡ right → (t && from (i + 1)) ≡ (right && from i)
+  nibble-passed t le e =
+      rw (e, upTo-passes bytes (replicate 32 15) i (omega (arith, long)) more (rw (getD-replicate {A = ℕ} 32 i 15 0 more) le))
+
+pub nibbles-end : (bytes : List ℕ) (i : ℕ) → i ≡ 32 → (right : Bool)
+    → right ≡ (right && upTo (drop i bytes) (drop i (replicate 32 15)))
+unfolding upTo
+nibbles-end bytes i e right = rw e (by right (drop 32 bytes))
+  where
+    by : (u : Bool) (l : List ℕ) → u ≡ (u && upTo l [])
+    by true [] = refl
+    by true (b ∷ l) = refl
+    by false l = refl
 
 -- ---- unfinished bits
 

@@ -3,14 +3,14 @@
 ghost use mathlib.Core.Path.{_≡_};
 ghost use Prim.Native.Nat.{_+_, _*_, _/_, _%_, _≤_};
 ghost use lib.Dec.{eqb};
-ghost use lib.ListN.{length, getD};
+ghost use lib.ListN.{length, getD, replicate};
 ghost use Rattle.ground.specs.Written.{over};
 ghost use Rattle.commands.specs.Numbers.{biasNumber};
 ghost use Rattle.rules.specs.Numbers.{sourceNumber, pitchNumber, irqSourceNumber};
 ghost use Rattle.state.specs.FrameCodes.{phaseRead, lineRead, phaseNumber, valueOf, positionOf, linesNumber};
 ghost use Rattle.state.specs.Selections.{sourceRead, biasRead, commonsRead, pitchRead, irqSourceRead};
 ghost use Rattle.state.specs.Answers.{frameRead, settingsRead, malformed, readOf, writtenAs, writtenOver};
-ghost use Rattle.state.specs.Record.{settingsWith, upTo, maxima, mostBits, goesWithCs, bitsRight, restRight, tailOf};
+ghost use Rattle.state.specs.Record.{settingsOf, upTo, maxima, mostBits, goesWithCs, bitsRight, restRight, tailOf};
 use chip::Chip;
 use chip::Port;
 use clock::BaseCounter;
@@ -91,8 +91,8 @@ pub enum Verdict {
 
 // The chip that a record says; where it was refused, one at power-on with zeros for its memory.
 pub struct Reading {
-    pub answer: Verdict,
     pub chip: Chip,
+    pub answer: Verdict,
 }
 
 // How many bytes were written.
@@ -256,13 +256,32 @@ const MAXIMA: [u8; 64] = [
     0,
 ];
 
+// Whether the memory's bytes are nibbles. All are looked at, so that they can be compared many at a time.
+fn nibbles(bytes: &[u8]) -> bool
+    requires { ⌜ length (now bytes) ≡ 64 ⌝ }
+    ensures { λ r. ⌜ r ≡ upTo (now (bytes .entry)) (replicate 32 15) ⌝ }
+{
+    let mut right = true;
+    let mut i: usize = 0;
+    while i < 32 {
+        if 15 < bytes[i] {
+            right = false;
+        }
+        i += 1;
+    }
+    right
+}
+
 // Whether each byte is in range.
 fn in_range(bytes: &[u8]) -> bool
     requires { ⌜ length (now bytes) ≡ 64 ⌝ }
     ensures { λ r. ⌜ r ≡ upTo (now (bytes .entry)) maxima ⌝ }
 {
+    if !nibbles(bytes) {
+        return false;
+    }
     let most = MAXIMA;
-    let mut i: usize = 0;
+    let mut i: usize = 32;
     while i < 64 {
         if most[i] < bytes[i] {
             return false;
@@ -347,53 +366,22 @@ fn frame_of(lines: u8, code: u8, count: u8, value: u16, at: u8, position: u8, li
     FrameRead::Framed(phase, driven)
 }
 
-// Bytes 40 to 57, with what the coded ones among them read to.
-fn settings_with(
-    bytes: &[u8],
-    source: Source,
-    bias: Bias,
-    commons: Commons,
-    pitch: Pitch,
-    irq: IrqSource,
-) -> Settings
+// Bytes 51 to 56.
+fn counters_of(bytes: &[u8]) -> Counters
     requires { ⌜ length (now bytes) ≡ 64 ⌝ }
-    ensures { λ r. ⌜ r ≡ settingsWith (now (bytes .entry)) source bias commons pitch irq ⌝ }
+    ensures { λ r. ⌜ r ≡ settingsOf (now (bytes .entry)) .counters ⌝ }
 {
-    Settings {
-        system: System {
-            on: bytes[40] == 1,
-            source,
-        },
-        lcd: Lcd {
-            on: bytes[42] == 1,
-            bias,
-            commons,
-        },
-        tone: Tone {
-            on: bytes[45] == 1,
-            pitch,
-        },
-        irq: Irq {
-            on: bytes[47] == 1,
-            source: irq,
-        },
-        base: Base {
-            on: bytes[49] == 1,
-            rate: bytes[48],
-        },
-        counters: Counters {
-            prescaler: Prescaler { count: bytes[52] },
-            toner: Toner { count: bytes[53] },
-            timer: Timer {
-                divider: Divider { count: bytes[54] },
-                base: BaseCounter { count: bytes[55] },
-                watchdog: Watchdog {
-                    count: bytes[56],
-                    flag: bytes[51] == 1,
-                },
+    Counters {
+        prescaler: Prescaler { count: bytes[52] },
+        toner: Toner { count: bytes[53] },
+        timer: Timer {
+            divider: Divider { count: bytes[54] },
+            base: BaseCounter { count: bytes[55] },
+            watchdog: Watchdog {
+                count: bytes[56],
+                flag: bytes[51] == 1,
             },
         },
-        test: bytes[57] == 1,
     }
 }
 
@@ -417,7 +405,31 @@ fn settings_of(bytes: &[u8]) -> SettingsRead
     let IrqSourceRead::Of(irq) = irq_source_of(bytes[50]) else {
         return SettingsRead::NoSettings;
     };
-    SettingsRead::Set(settings_with(bytes, source, bias, commons, pitch, irq))
+    SettingsRead::Set(Settings {
+        system: System {
+            on: bytes[40] == 1,
+            source,
+        },
+        lcd: Lcd {
+            on: bytes[42] == 1,
+            bias,
+            commons,
+        },
+        tone: Tone {
+            on: bytes[45] == 1,
+            pitch,
+        },
+        irq: Irq {
+            on: bytes[47] == 1,
+            source: irq,
+        },
+        base: Base {
+            on: bytes[49] == 1,
+            rate: bytes[48],
+        },
+        counters: counters_of(bytes),
+        test: bytes[57] == 1,
+    })
 }
 
 // The value of the unfinished bits, low byte first.

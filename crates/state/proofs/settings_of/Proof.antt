@@ -2,6 +2,7 @@
 use mathlib.Core.Path.{_∙_, sym}
 use Rattle.state.specs.Answers.{settingsRead}
 use Rattle.state.specs.Record.{settingsRight}
+use native.Mathlib.Omega.{arith}
 use borrow.Author.Needs.{needs}
 use Rattle.state.proofs.settings_of.Statement.{statement}
 use Rattle.state.proofs.settings_of.Tie as tie
@@ -119,19 +120,47 @@ returns-5 c =
       sym (source .before .before .source-of .ensures) ∙ source .source .given .1,
     )
 
-settings-with-requires : tie.Need-settings-with-requires
-settings-with-requires c κs = search needs
+shared-slice-read-t9 : tie.Need-shared-slice-read-t9
+shared-slice-read-t9 c = search needs
+
+shared-slice-read-t22 : tie.Need-shared-slice-read-t22
+shared-slice-read-t22 c = search needs
+
+shared-slice-read-t26 : tie.Need-shared-slice-read-t26
+shared-slice-read-t26 c = search needs
+
+shared-slice-read-t30 : tie.Need-shared-slice-read-t30
+shared-slice-read-t30 c = search needs
+
+shared-slice-read-t34 : tie.Need-shared-slice-read-t34
+shared-slice-read-t34 c = search needs
+
+shared-slice-read-t37 : tie.Need-shared-slice-read-t37
+shared-slice-read-t37 c = search needs
+
+counters-of-requires : tie.Need-counters-of-requires
+counters-of-requires c κs = search needs
+
+shared-slice-read-t41 : tie.Need-shared-slice-read-t41
+shared-slice-read-t41 c =
+    let irq = c .before .before .before .before .before .before .before .before .before in
+    let pitch = irq .before .before .before .before .before in
+    let commons = pitch .before .before .before .before .before in
+    let bias = commons .before .before .before .before .before in
+    let source = bias .before .before .before .before .before in
+    omega (arith, source .before .before .before .before .before .pre)
 
 returns-6 : tie.Need-returns-6
 unfolding settingsRead settingsRight
 returns-6 c =
-    let irq = c .before .before in
+    let counters = c .before in
+    let irq = counters .before .before .before .before .before .before .before .before in
     let pitch = irq .before .before .before .before .before in
     let commons = pitch .before .before .before .before .before in
     let bias = commons .before .before .before .before .before in
     let source = bias .before .before .before .before .before in
     simp (
-      c .settings-with .ensures,
+      counters .counters-of .ensures,
       sym (irq .before .before .irq-source-of .ensures) ∙ irq .irq .given .1,
       sym (pitch .before .before .pitch-of .ensures) ∙ pitch .pitch .given .1,
       sym (commons .before .before .commons-of .ensures) ∙ commons .commons .given .1,
@@ -168,5 +197,12 @@ settings-of-spec =
     enum-known-irq
     enum-told-5
     returns-5
-    settings-with-requires
+    shared-slice-read-t9
+    shared-slice-read-t22
+    shared-slice-read-t26
+    shared-slice-read-t30
+    shared-slice-read-t34
+    shared-slice-read-t37
+    counters-of-requires
+    shared-slice-read-t41
     returns-6)
