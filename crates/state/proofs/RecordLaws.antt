@@ -18,14 +18,16 @@ use Rattle.rules.specs.declared.Settings.{Settings}
 use Rattle.frames.specs.declared.Phase.{Phase}
 use Rattle.frames.specs.declared.Line.{Line}
 use Rattle.frames.specs.Samples.{levels}
+use Rattle.clock.specs.declared.Counters.{Counters}
+use Rattle.chip.specs.declared.Port.{Port}
 use Rattle.chip.specs.declared.Chip.{Chip}
 use Rattle.state.specs.declared.FrameRead.{FrameRead}
 use Rattle.state.specs.declared.FrameRead.the-variants.{Framed, NoFrame}
 use Rattle.state.specs.declared.SettingsRead.the-variants.{Set, NoSettings}
 use Rattle.state.specs.declared.Reading.{Reading}
 use Rattle.state.specs.declared.Verdict.the-variants as verdict
-use Rattle.state.specs.Answers.{frameRead, settingsRead, malformed, readOf, writtenOver}
-use Rattle.state.specs.Record.{upTo, maxima, mostBits, byte, valueIn, framesRight, recordValid, frameRight, settingsRight, chipOf, tailOf, recordOf}
+use Rattle.state.specs.Answers.{frameRead, settingsRead, malformed, readOf, writtenOver, portOver, countersOver}
+use Rattle.state.specs.Record.{frameBytes, counterBytes, upTo, maxima, mostBits, byte, valueIn, framesRight, recordValid, frameRight, settingsRight, chipOf, tailOf, recordOf}
 
 -- ---- each byte at most its maximum: one that is leaves the rest to decide, one that is not decides, and none is left
 
@@ -129,7 +131,7 @@ module _ (buffer block now : List ℕ) (at i : ℕ) (e : now ≡ paste buffer at
   pub put-whole : i ≡ length block → now ≡ over buffer at block
   put-whole whole = e ∙ ap (paste buffer at block) whole ∙ over-paste buffer block at
 
-pub put-after : (buffer first second : List ℕ) → length first ≡ 32 → length second ≡ 32 → 64 ≤ length buffer
+pub put-after : (buffer first second : List ℕ) → length first ≡ 32 → length second ≤ 32 → 64 ≤ length buffer
     → over (over buffer 0 first) 32 second ≡ over buffer 0 (first ++ second)
 put-after buffer first second h k room =
     ap (λ (n : ℕ). over (over buffer 0 first) n second) (sym h ∙ sym (zero-add (length first)))
@@ -143,8 +145,23 @@ pub put-record : (chip : Chip) (buffer tail between after : List ℕ)
 unfolding writtenOver recordOf
 put-record chip buffer tail between after h k room t e f =
     rw (le-ltb (length buffer) 64 room)
-    (f ∙ ap (λ (l : List ℕ). over l 32 tail) e ∙ put-after buffer (chip .port .memory) tail h k room
+    (f ∙ ap (λ (l : List ℕ). over l 32 tail) e ∙ put-after buffer (chip .port .memory) tail h (omega arith) room
     ∙ ap (λ (l : List ℕ). over buffer 0 (chip .port .memory ++ l)) t)
+
+-- the memory and the frame after it are the port's part, and the counters are a part alone
+pub put-port : (port : Port) (buffer frame between after : List ℕ) → length (port .memory) ≡ 32 → 64 ≤ length buffer
+    → frame ≡ frameBytes port → between ≡ over buffer 0 (port .memory) → after ≡ over between 32 frame
+    → after ≡ portOver port buffer
+unfolding portOver
+put-port port buffer frame between after h room t e f =
+    rw (le-ltb (length buffer) 64 room)
+    (f ∙ ap (λ (l : List ℕ). over l 32 frame) e ∙ ap (over (over buffer 0 (port .memory)) 32) t
+    ∙ put-after buffer (port .memory) (frameBytes port) h (omega arith) room)
+
+pub put-counters : (counters : Counters) (buffer block after : List ℕ) → 64 ≤ length buffer
+    → block ≡ counterBytes counters → after ≡ over buffer 51 block → after ≡ countersOver counters buffer
+unfolding countersOver
+put-counters counters buffer block after room t e = rw (le-ltb (length buffer) 64 room) (e ∙ ap (over buffer 51) t)
 
 -- ---- the memory of a record is its first 32 bytes
 

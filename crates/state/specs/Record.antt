@@ -9,6 +9,7 @@ use Rattle.ground.specs.Bits.{bitNumber}
 use Rattle.commands.specs.Numbers.{biasNumber, commonsNumber}
 use Rattle.commands.specs.declared.Bias.{Bias}
 use Rattle.commands.specs.declared.Commons.{Commons}
+use Rattle.clock.specs.declared.Counters.{Counters}
 use Rattle.clock.specs.declared.Source.{Source}
 use Rattle.rules.specs.declared.Pitch.{Pitch}
 use Rattle.rules.specs.declared.IrqSource.{IrqSource}
@@ -41,6 +42,12 @@ settingsBytes s =
     ∷ bitNumber (s .counters .timer .watchdog .flag) ∷ s .counters .prescaler .count ∷ s .counters .toner .count
     ∷ s .counters .timer .divider .count ∷ s .counters .timer .base .count ∷ s .counters .timer .watchdog .count
     ∷ bitNumber (s .test) ∷ []
+
+-- Of these, bytes 51 to 56.
+abbrev pub counterBytes : Counters → List ℕ
+counterBytes c =
+    bitNumber (c .timer .watchdog .flag) ∷ c .prescaler .count ∷ c .toner .count
+    ∷ c .timer .divider .count ∷ c .timer .base .count ∷ c .timer .watchdog .count ∷ []
 
 -- All after the memory, zeros last.
 unfoldable pub tailOf : Chip → List ℕ

@@ -10,7 +10,8 @@ ghost use Rattle.rules.specs.Numbers.{sourceNumber, pitchNumber, irqSourceNumbe
 ghost use Rattle.state.specs.FrameCodes.{phaseRead, lineRead, phaseNumber, valueOf, positionOf, linesNumber};
 ghost use Rattle.state.specs.Selections.{sourceRead, biasRead, commonsRead, pitchRead, irqSourceRead};
 ghost use Rattle.state.specs.Answers.{frameRead, settingsRead, malformed, readOf, writtenAs, writtenOver};
-ghost use Rattle.state.specs.Record.{settingsOf, upTo, maxima, mostBits, goesWithCs, bitsRight, restRight, tailOf};
+ghost use Rattle.state.specs.Answers.{partWrittenAs, portOver, countersOver};
+ghost use Rattle.state.specs.Record.{frameBytes, counterBytes, settingsOf, upTo, maxima, mostBits, goesWithCs, bitsRight, restRight, tailOf};
 use chip::Chip;
 use chip::Port;
 use clock::BaseCounter;
@@ -655,6 +656,18 @@ fn put_32(block: [u8; 32], at: usize, out: &mut [u8])
     }
 }
 
+// Bytes over a buffer from a place on.
+fn put(block: &[u8], at: usize, out: &mut [u8])
+    requires { ⌜ at + length (now block) ≤ length (now out) ⌝ }
+    ensures { λ _. ⌜ now (out .exit) ≡ over (now (out .entry)) at (now (block .entry)) ⌝ }
+{
+    let mut i: usize = 0;
+    while i < block.len() {
+        out[at + i] = block[i];
+        i += 1;
+    }
+}
+
 // The chip's 64 bytes over the start of a buffer.
 pub fn write(chip: Chip, out: &mut [u8]) -> Written
     ensures { λ r. ⌜ (r ≡ writtenAs (now (out .entry))) × (now (out .exit) ≡ writtenOver chip (now (out .entry))) ⌝ }
@@ -668,4 +681,65 @@ pub fn write(chip: Chip, out: &mut [u8]) -> Written
     put_32(memory, 0, out);
     put_32(tail, 32, out);
     Written::Bytes(64)
+}
+
+// Bytes 32 to 39.
+fn frame_bytes(port: Port) -> [u8; 8]
+    ensures { λ r. ⌜ r ≡ frameBytes port ⌝ }
+{
+    let levels = port.levels;
+    let phase = port.phase;
+    let line = port.line;
+    let value = value_of(phase);
+    [
+        lines_number(levels),
+        phase_number(phase),
+        phase.unfinished(),
+        (value % 256) as u8,
+        (value / 256) as u8,
+        phase.address(),
+        position_of(phase),
+        line.number(),
+    ]
+}
+
+// Of a record that a buffer holds, the port's bytes alone, 0 to 39: for a chip whose settings are as they were.
+pub fn write_port(port: Port, out: &mut [u8]) -> Written
+    ensures { λ r. ⌜ (r ≡ partWrittenAs 40 (now (out .entry))) × (now (out .exit) ≡ portOver port (now (out .entry))) ⌝ }
+{
+    if out.len() < 64 {
+        return Written::Refused(Refusal::OutputShort);
+    }
+    let memory = port.memory;
+    let frame = frame_bytes(port);
+    put_32(memory, 0, out);
+    put(&frame, 32, out);
+    Written::Bytes(40)
+}
+
+// Bytes 51 to 56.
+fn counter_bytes(counters: Counters) -> [u8; 6]
+    ensures { λ r. ⌜ r ≡ counterBytes counters ⌝ }
+{
+    [
+        counters.timer.watchdog.flag as u8,
+        counters.prescaler.count,
+        counters.toner.count,
+        counters.timer.divider.count,
+        counters.timer.base.count,
+        counters.timer.watchdog.count,
+    ]
+}
+
+// Of a record that a buffer holds, the counters' bytes alone, 51 to 56: for a chip of which nothing else has changed.
+pub fn write_counters(counters: Counters, out: &mut [u8]) -> Written
+    ensures { λ r. ⌜ (r ≡ partWrittenAs 6 (now (out .entry)))
+        × (now (out .exit) ≡ countersOver counters (now (out .entry))) ⌝ }
+{
+    if out.len() < 64 {
+        return Written::Refused(Refusal::OutputShort);
+    }
+    let block = counter_bytes(counters);
+    put(&block, 51, out);
+    Written::Bytes(6)
 }
