@@ -42,7 +42,8 @@ fn show(cells: [u8; 32], out: &mut [u8])
     }
 }
 
-// A sample: returns its answer + 256 x first detail + 65,536 x second.
+// A sample: returns its answer + 256 x first detail + 65,536 x second. Only an obeyed command, answer 6, changes the
+// settings; after any other sample the port alone is written back.
 #[no_mangle]
 pub extern "C" fn step(bytes: &mut [u8], sample: u8) -> u32
     ensures { λ r. ⌜ (r ≡ stepReturns (now (bytes .entry)) sample)
@@ -60,11 +61,16 @@ pub extern "C" fn step(bytes: &mut [u8], sample: u8) -> u32
     let chip = reading.chip;
     let done = place::via_place(chip, sample);
     let next = done.chip;
-    state::write(next, bytes);
+    if done.number % 256 == 6 {
+        state::write(next, bytes);
+        return done.number;
+    }
+    let port = next.port;
+    state::write_port(port, bytes);
     done.number
 }
 
-// So many single ticks: returns 0.
+// So many single ticks: returns 0. They change the counters alone, so these alone are written back.
 #[no_mangle]
 pub extern "C" fn advance(bytes: &mut [u8], n: u16) -> u32
     ensures { λ r. ⌜ (r ≡ advanceReturns (now (bytes .entry)))
@@ -78,7 +84,9 @@ pub extern "C" fn advance(bytes: &mut [u8], n: u16) -> u32
     }
     let chip = reading.chip;
     let next = chip.advance(n);
-    state::write(next, bytes);
+    let settings = next.settings;
+    let counters = settings.counters;
+    state::write_counters(counters, bytes);
     0
 }
 

@@ -39,7 +39,7 @@ use Rattle.frames.proofs.ValidLaws.{line-small}
 use Rattle.chip.specs.declared.Chip.{Chip}
 use Rattle.chip.specs.Valid.{Nibbles, Valid}
 use Rattle.state.specs.FrameCodes.{linesNumber, phaseRead, phaseIn, phaseNumber, valueOf, positionOf, lineRead, lineIn}
-use Rattle.state.specs.Record.{mostBits, goesWithCs, bitsRight, restRight, frameRight, upTo, maxima, byte, valueIn, framesRight, settingsRight, recordValid, recordOf, tailOf, chipOf, settingsOf}
+use Rattle.state.specs.Record.{mostBits, goesWithCs, bitsRight, restRight, frameRight, upTo, maxima, byte, valueIn, framesRight, settingsRight, recordValid, recordOf, tailOf, chipOf}
 use Rattle.state.proofs.RangesLaws.{and-both, upTo-nibbles, upTo-memory}
 use Rattle.state.proofs.CodesLaws.{bit-back, levels-back, phase-back, line-back, source-back, bias-back, commons-back, pitch-back, irqSource-back}
 use Rattle.state.proofs.FramesLaws.{FrameHas, frame-has, frame-zeros}
@@ -74,7 +74,7 @@ module _ (lines count value at position line : ℕ) (near : at ≤ 31) (one : po
   frame-valid (suc (suc (suc (suc (suc (suc (suc (suc code)))))))) h v = let no : ⊥ = omega arith in absurd no
 
 pub valid-chip : (b : List ℕ) → recordValid b ≡ true → Valid (chipOf b)
-unfolding chipOf settingsOf
+unfolding chipOf
 valid-chip b e =
     let has = valid-has b e in
     record {
@@ -118,7 +118,7 @@ listed m h =
     ∙ append-nil (gather 32 0 m)
 
 spelt-again : (m : List ℕ) (c : Chip) → chipOf (recordOf (spelt (gather 32 0 m) c)) ≡ spelt (gather 32 0 m) c
-unfolding chipOf recordOf tailOf settingsOf
+unfolding chipOf recordOf tailOf
 spelt-again m c =
     simp (levels-back (c .port .levels), mod-add-div (valueOf (c .port .phase)) 256, phase-back (c .port .phase), line-back (c .port .line), bit-back, source-back, bias-back, commons-back, pitch-back, irqSource-back)
 

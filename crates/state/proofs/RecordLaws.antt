@@ -1,14 +1,14 @@
 -- Laws that the proofs of this crate's functions cite: ranges, the power of a count, bytes put over a buffer, and what
 -- reading found. Assumes nothing.
 use mathlib.Core.Path.{_≡_, _∙_, refl, sym, ap}
-use mathlib.Core.Bool.{Bool, true, false, cond}
+use mathlib.Core.Bool.{Bool, true, false, cond, _&&_}
 use mathlib.Core.List.{List, [], _∷_, _++_, append-nil}
 use Prim.Native.Nat.{ℕ, zero, suc, _+_, _*_, _/_, _^_, _≤_, _<_, min}
 use native.Mathlib.Omega.{arith}
 use native.Mathlib.Nat.{div-eq-of-lt, div-lt-iff-lt-mul, zero-add, one-mul}
 use native.Mathlib.Numerals.{add-one}
 use lib.Dec.{ltb, leb, eqb}
-use lib.ListN.{length, take, drop, getD, set, replicate, length-append, drop-of-length-le}
+use lib.ListN.{length, take, drop, getD, set, replicate, getD-replicate, length-append, drop-of-length-le}
 use lib.Pow.{pow-pos}
 use lib.Seq.{paste, paste-suc, length-paste, drop-cons}
 use borrow.Author.Tests.{ltb-true, ltb-false, lt-ltb, le-ltb, le-leb, lt-leb, eq-eqb, ne-eqb}
@@ -18,14 +18,16 @@ use Rattle.rules.specs.declared.Settings.{Settings}
 use Rattle.frames.specs.declared.Phase.{Phase}
 use Rattle.frames.specs.declared.Line.{Line}
 use Rattle.frames.specs.Samples.{levels}
+use Rattle.clock.specs.declared.Counters.{Counters}
+use Rattle.chip.specs.declared.Port.{Port}
 use Rattle.chip.specs.declared.Chip.{Chip}
 use Rattle.state.specs.declared.FrameRead.{FrameRead}
 use Rattle.state.specs.declared.FrameRead.the-variants.{Framed, NoFrame}
 use Rattle.state.specs.declared.SettingsRead.the-variants.{Set, NoSettings}
 use Rattle.state.specs.declared.Reading.{Reading}
 use Rattle.state.specs.declared.Verdict.the-variants as verdict
-use Rattle.state.specs.Answers.{frameRead, settingsRead, malformed, readOf, writtenOver}
-use Rattle.state.specs.Record.{upTo, maxima, mostBits, byte, valueIn, framesRight, recordValid, frameRight, settingsRight, chipOf, tailOf, recordOf}
+use Rattle.state.specs.Answers.{frameRead, settingsRead, malformed, readOf, writtenOver, portOver, countersOver}
+use Rattle.state.specs.Record.{frameBytes, counterBytes, upTo, maxima, mostBits, byte, valueIn, framesRight, recordValid, frameRight, settingsRight, chipOf, tailOf, recordOf}
 
 -- ---- each byte at most its maximum: one that is leaves the rest to decide, one that is not decides, and none is left
 
@@ -43,6 +45,53 @@ module _ (bytes most : List ℕ) (i : ℕ) where
   pub upTo-ends : length bytes ≤ i → upTo (drop i bytes) (drop i most) ≡ true
   unfolding upTo
   upTo-ends h = rw (drop-of-length-le bytes h)
+
+-- the maxima in two parts: the first, and the second for the bytes that follow
+upTo-split : (bytes first second : List ℕ)
+    → upTo bytes (first ++ second) ≡ (upTo bytes first && upTo (drop (length first) bytes) second)
+unfolding upTo
+upTo-split [] [] second = refl
+upTo-split (b ∷ bytes) [] second = refl
+upTo-split [] (maximum ∷ first) second = refl
+upTo-split (b ∷ bytes) (maximum ∷ first) second =
+    by (leb b maximum) _ _ _ (upTo-split bytes first second)
+  where
+    by : (t u v w : Bool) → u ≡ (v && w) → (t && u) ≡ ((t && v) && w)
+    by true u v w e = e
+    by false u v w e = refl
+
+-- the memory first, and then the rest
+pub upTo-parts : (bytes : List ℕ) (t : Bool) → t ≡ upTo bytes (replicate 32 15)
+    → (t && upTo (drop 32 bytes) (drop 32 maxima)) ≡ upTo bytes maxima
+upTo-parts bytes t e =
+    ap (λ (u : Bool). u && upTo (drop 32 bytes) (drop 32 maxima)) e ∙ sym (upTo-split bytes (replicate 32 15) (drop 32 maxima))
+
+-- one nibble more: what was found before it, and it, decide with the rest
+module _ (bytes : List ℕ) (i : ℕ) (long : length bytes ≡ 64) (more : i < 32) (right : Bool) where
+  abbrev from : ℕ → Bool
+  from k = upTo (drop k bytes) (drop k (replicate 32 15))
+
+  pub nibble-found : (t : Bool) → 15 < getD bytes i 0 → t ≡ false → (t && from (i + 1)) ≡ (right && from i)
+  nibble-found t lt e =
+      rw (e, upTo-fails bytes (replicate 32 15) i (omega (arith, long)) more (rw (getD-replicate {A = ℕ} 32 i 15 0 more) lt)) (by right)
+    where
+      by : (u : Bool) → false ≡ (u && false)
+      by true = refl
+      by false = refl
+
+  pub nibble-passed : (t : Bool) → getD bytes i 0 ≤ 15 → t ≡ right → (t && from (i + 1)) ≡ (right && from i)
+  nibble-passed t le e =
+      rw (e, upTo-passes bytes (replicate 32 15) i (omega (arith, long)) more (rw (getD-replicate {A = ℕ} 32 i 15 0 more) le))
+
+pub nibbles-end : (bytes : List ℕ) (i : ℕ) → i ≡ 32 → (right : Bool)
+    → right ≡ (right && upTo (drop i bytes) (drop i (replicate 32 15)))
+unfolding upTo
+nibbles-end bytes i e right = rw e (by right (drop 32 bytes))
+  where
+    by : (u : Bool) (l : List ℕ) → u ≡ (u && upTo l [])
+    by true [] = refl
+    by true (b ∷ l) = refl
+    by false l = refl
 
 -- ---- unfinished bits
 
@@ -82,7 +131,7 @@ module _ (buffer block now : List ℕ) (at i : ℕ) (e : now ≡ paste buffer at
   pub put-whole : i ≡ length block → now ≡ over buffer at block
   put-whole whole = e ∙ ap (paste buffer at block) whole ∙ over-paste buffer block at
 
-pub put-after : (buffer first second : List ℕ) → length first ≡ 32 → length second ≡ 32 → 64 ≤ length buffer
+pub put-after : (buffer first second : List ℕ) → length first ≡ 32 → length second ≤ 32 → 64 ≤ length buffer
     → over (over buffer 0 first) 32 second ≡ over buffer 0 (first ++ second)
 put-after buffer first second h k room =
     ap (λ (n : ℕ). over (over buffer 0 first) n second) (sym h ∙ sym (zero-add (length first)))
@@ -96,8 +145,23 @@ pub put-record : (chip : Chip) (buffer tail between after : List ℕ)
 unfolding writtenOver recordOf
 put-record chip buffer tail between after h k room t e f =
     rw (le-ltb (length buffer) 64 room)
-    (f ∙ ap (λ (l : List ℕ). over l 32 tail) e ∙ put-after buffer (chip .port .memory) tail h k room
+    (f ∙ ap (λ (l : List ℕ). over l 32 tail) e ∙ put-after buffer (chip .port .memory) tail h (omega arith) room
     ∙ ap (λ (l : List ℕ). over buffer 0 (chip .port .memory ++ l)) t)
+
+-- the memory and the frame after it are the port's part, and the counters are a part alone
+pub put-port : (port : Port) (buffer frame between after : List ℕ) → length (port .memory) ≡ 32 → 64 ≤ length buffer
+    → frame ≡ frameBytes port → between ≡ over buffer 0 (port .memory) → after ≡ over between 32 frame
+    → after ≡ portOver port buffer
+unfolding portOver
+put-port port buffer frame between after h room t e f =
+    rw (le-ltb (length buffer) 64 room)
+    (f ∙ ap (λ (l : List ℕ). over l 32 frame) e ∙ ap (over (over buffer 0 (port .memory)) 32) t
+    ∙ put-after buffer (port .memory) (frameBytes port) h (omega arith) room)
+
+pub put-counters : (counters : Counters) (buffer block after : List ℕ) → 64 ≤ length buffer
+    → block ≡ counterBytes counters → after ≡ over buffer 51 block → after ≡ countersOver counters buffer
+unfolding countersOver
+put-counters counters buffer block after room t e = rw (le-ltb (length buffer) 64 room) (e ∙ ap (over buffer 51) t)
 
 -- ---- the memory of a record is its first 32 bytes
 

@@ -12,7 +12,7 @@ use lib.Seq.{drop-cons, length-take-le}
 use borrow.Author.Tests.{eqb-true}
 use Rattle.chip.specs.declared.Chip.{Chip}
 use Rattle.state.specs.Selections.{sourceRead, isSource, biasRead, isBias, commonsRead, isCommons, pitchRead, isPitch, irqSourceRead, isIrqSource}
-use Rattle.state.specs.Record.{upTo, maxima, byte, valueIn, framesRight, settingsRight, recordValid, recordOf, tailOf, chipOf, settingsOf}
+use Rattle.state.specs.Record.{upTo, maxima, byte, valueIn, framesRight, settingsRight, recordValid, recordOf, tailOf, chipOf}
 use Rattle.state.proofs.RangesLaws.{each-of-4, each-of-5, upTo-at, upTo-drop, upTo-zeros}
 use Rattle.state.proofs.CodesLaws.{bit-again, lines-again, line-again, source-again, irqSource-again, bias-again, commons-again, pitch-again}
 use Rattle.state.proofs.FramesLaws.{FrameSame, frame-has, frame-same}
@@ -66,7 +66,7 @@ module _ (b : List ℕ) (has : RecordHas b) where
 
   -- and all that follow the memory
   tail-same : tailOf (chipOf b) ≡ gather 26 32 b ++ replicate 6 0
-  unfolding tailOf chipOf settingsOf settingsRight
+  unfolding tailOf chipOf settingsRight
   tail-same =
       let each = each-of-5 (isSource (sourceRead (byte b 41))) (isBias (biasRead (byte b 43))) (isCommons (commonsRead (byte b 44)))
       (isPitch (pitchRead (byte b 46))) (isIrqSource (irqSourceRead (byte b 50))) (has .settings) in

@@ -2,12 +2,14 @@
 -- Assumes nothing.
 use Prim.Native.Nat.{ℕ}
 use mathlib.Core.Bool.{cond}
-use mathlib.Core.List.{List}
+use mathlib.Core.List.{List, _++_}
 use lib.Dec.{ltb}
 use lib.ListN.{length, replicate}
 use Rattle.ground.specs.declared.Refusal.the-variants.{OutputShort, Malformed}
 use Rattle.ground.specs.Refusals.{refusalNumber}
 use Rattle.ground.specs.Written.{over}
+use Rattle.clock.specs.declared.Counters.{Counters}
+use Rattle.chip.specs.declared.Port.{Port}
 use Rattle.chip.specs.declared.Chip.{Chip}
 use Rattle.chip.specs.PowerOn.{freshChip}
 use Rattle.state.specs.declared.FrameRead.{FrameRead}
@@ -20,7 +22,7 @@ use Rattle.state.specs.declared.Verdict.the-variants as verdict
 use Rattle.state.specs.declared.Written.{Written}
 use Rattle.state.specs.declared.Written.the-variants as written
 use Rattle.state.specs.FrameCodes.{phaseRead, phaseIn, lineRead, lineIn}
-use Rattle.state.specs.Record.{frameRight, settingsRight, settingsOf, recordValid, recordOf, chipOf}
+use Rattle.state.specs.Record.{frameBytes, counterBytes, frameRight, settingsRight, settingsOf, recordValid, recordOf, chipOf}
 
 -- The paper's numbers: 0 for a valid record, the count for bytes written, else the refusal's.
 abbrev pub verdictNumber : Verdict → ℕ
@@ -53,3 +55,14 @@ writtenAs buffer = cond (ltb (length buffer) 64) (written.Refused OutputShort) (
 
 unfoldable pub writtenOver : Chip → List ℕ → List ℕ
 writtenOver chip buffer = cond (ltb (length buffer) 64) buffer (over buffer 0 (recordOf chip))
+
+-- A part of a record over a buffer that holds one, refused alike: the port's 40 bytes over its start, and the counters' 6
+-- from byte 51 on.
+unfoldable pub partWrittenAs : ℕ → List ℕ → Written
+partWrittenAs count buffer = cond (ltb (length buffer) 64) (written.Refused OutputShort) (written.Bytes count)
+
+unfoldable pub portOver : Port → List ℕ → List ℕ
+portOver port buffer = cond (ltb (length buffer) 64) buffer (over buffer 0 (port .memory ++ frameBytes port))
+
+unfoldable pub countersOver : Counters → List ℕ → List ℕ
+countersOver counters buffer = cond (ltb (length buffer) 64) buffer (over buffer 51 (counterBytes counters))

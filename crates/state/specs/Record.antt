@@ -7,6 +7,12 @@ use lib.Dec.{ltb, leb, eqb}
 use lib.ListN.{length, getD, take, replicate}
 use Rattle.ground.specs.Bits.{bitNumber}
 use Rattle.commands.specs.Numbers.{biasNumber, commonsNumber}
+use Rattle.commands.specs.declared.Bias.{Bias}
+use Rattle.commands.specs.declared.Commons.{Commons}
+use Rattle.clock.specs.declared.Counters.{Counters}
+use Rattle.clock.specs.declared.Source.{Source}
+use Rattle.rules.specs.declared.Pitch.{Pitch}
+use Rattle.rules.specs.declared.IrqSource.{IrqSource}
 use Rattle.rules.specs.declared.Settings.{Settings}
 use Rattle.rules.specs.Numbers.{sourceNumber, pitchNumber, irqSourceNumber}
 use Rattle.frames.specs.Samples.{levels}
@@ -36,6 +42,12 @@ settingsBytes s =
     ∷ bitNumber (s .counters .timer .watchdog .flag) ∷ s .counters .prescaler .count ∷ s .counters .toner .count
     ∷ s .counters .timer .divider .count ∷ s .counters .timer .base .count ∷ s .counters .timer .watchdog .count
     ∷ bitNumber (s .test) ∷ []
+
+-- Of these, bytes 51 to 56.
+abbrev pub counterBytes : Counters → List ℕ
+counterBytes c =
+    bitNumber (c .timer .watchdog .flag) ∷ c .prescaler .count ∷ c .toner .count
+    ∷ c .timer .divider .count ∷ c .timer .base .count ∷ c .timer .watchdog .count ∷ []
 
 -- All after the memory, zeros last.
 unfoldable pub tailOf : Chip → List ℕ
@@ -99,13 +111,14 @@ recordValid b = eqb (length b) 64 && upTo b maxima && framesRight b && settingsR
 
 -- ---- the chip that valid bytes say
 
-unfoldable pub settingsOf : List ℕ → Settings
-settingsOf b =
+-- Its settings, with what the coded bytes among them read to.
+abbrev pub settingsWith : List ℕ → Source → Bias → Commons → Pitch → IrqSource → Settings
+settingsWith b source bias commons pitch irq =
     record {
-      system = record { on = eqb (byte b 40) 1; source = sourceIn (sourceRead (byte b 41)) };
-      lcd = record { on = eqb (byte b 42) 1; bias = biasIn (biasRead (byte b 43)); commons = commonsIn (commonsRead (byte b 44)) };
-      tone = record { on = eqb (byte b 45) 1; pitch = pitchIn (pitchRead (byte b 46)) };
-      irq = record { on = eqb (byte b 47) 1; source = irqSourceIn (irqSourceRead (byte b 50)) };
+      system = record { on = eqb (byte b 40) 1; source = source };
+      lcd = record { on = eqb (byte b 42) 1; bias = bias; commons = commons };
+      tone = record { on = eqb (byte b 45) 1; pitch = pitch };
+      irq = record { on = eqb (byte b 47) 1; source = irq };
       base = record { on = eqb (byte b 49) 1; rate = byte b 48 };
       counters =
           record {
@@ -120,6 +133,11 @@ settingsOf b =
           };
       test = eqb (byte b 57) 1;
     }
+
+abbrev pub settingsOf : List ℕ → Settings
+settingsOf b =
+    settingsWith b (sourceIn (sourceRead (byte b 41))) (biasIn (biasRead (byte b 43))) (commonsIn (commonsRead (byte b 44)))
+    (pitchIn (pitchRead (byte b 46))) (irqSourceIn (irqSourceRead (byte b 50)))
 
 unfoldable pub chipOf : List ℕ → Chip
 chipOf b =

@@ -3,14 +3,15 @@
 ghost use mathlib.Core.Path.{_≡_};
 ghost use Prim.Native.Nat.{_+_, _*_, _/_, _%_, _≤_};
 ghost use lib.Dec.{eqb};
-ghost use lib.ListN.{length, getD};
+ghost use lib.ListN.{length, getD, replicate};
 ghost use Rattle.ground.specs.Written.{over};
 ghost use Rattle.commands.specs.Numbers.{biasNumber};
 ghost use Rattle.rules.specs.Numbers.{sourceNumber, pitchNumber, irqSourceNumber};
 ghost use Rattle.state.specs.FrameCodes.{phaseRead, lineRead, phaseNumber, valueOf, positionOf, linesNumber};
 ghost use Rattle.state.specs.Selections.{sourceRead, biasRead, commonsRead, pitchRead, irqSourceRead};
 ghost use Rattle.state.specs.Answers.{frameRead, settingsRead, malformed, readOf, writtenAs, writtenOver};
-ghost use Rattle.state.specs.Record.{upTo, maxima, mostBits, goesWithCs, bitsRight, restRight, tailOf};
+ghost use Rattle.state.specs.Answers.{partWrittenAs, portOver, countersOver};
+ghost use Rattle.state.specs.Record.{frameBytes, counterBytes, settingsOf, upTo, maxima, mostBits, goesWithCs, bitsRight, restRight, tailOf};
 use chip::Chip;
 use chip::Port;
 use clock::BaseCounter;
@@ -91,8 +92,8 @@ pub enum Verdict {
 
 // The chip that a record says; where it was refused, one at power-on with zeros for its memory.
 pub struct Reading {
-    pub answer: Verdict,
     pub chip: Chip,
+    pub answer: Verdict,
 }
 
 // How many bytes were written.
@@ -256,13 +257,32 @@ const MAXIMA: [u8; 64] = [
     0,
 ];
 
+// Whether the memory's bytes are nibbles. All are looked at, so that they can be compared many at a time.
+fn nibbles(bytes: &[u8]) -> bool
+    requires { ⌜ length (now bytes) ≡ 64 ⌝ }
+    ensures { λ r. ⌜ r ≡ upTo (now (bytes .entry)) (replicate 32 15) ⌝ }
+{
+    let mut right = true;
+    let mut i: usize = 0;
+    while i < 32 {
+        if 15 < bytes[i] {
+            right = false;
+        }
+        i += 1;
+    }
+    right
+}
+
 // Whether each byte is in range.
 fn in_range(bytes: &[u8]) -> bool
     requires { ⌜ length (now bytes) ≡ 64 ⌝ }
     ensures { λ r. ⌜ r ≡ upTo (now (bytes .entry)) maxima ⌝ }
 {
+    if !nibbles(bytes) {
+        return false;
+    }
     let most = MAXIMA;
-    let mut i: usize = 0;
+    let mut i: usize = 32;
     while i < 64 {
         if most[i] < bytes[i] {
             return false;
@@ -347,7 +367,26 @@ fn frame_of(lines: u8, code: u8, count: u8, value: u16, at: u8, position: u8, li
     FrameRead::Framed(phase, driven)
 }
 
-// Bytes 40 to 57. All in one function: settings handed out by another would be copied once more.
+// Bytes 51 to 56.
+fn counters_of(bytes: &[u8]) -> Counters
+    requires { ⌜ length (now bytes) ≡ 64 ⌝ }
+    ensures { λ r. ⌜ r ≡ settingsOf (now (bytes .entry)) .counters ⌝ }
+{
+    Counters {
+        prescaler: Prescaler { count: bytes[52] },
+        toner: Toner { count: bytes[53] },
+        timer: Timer {
+            divider: Divider { count: bytes[54] },
+            base: BaseCounter { count: bytes[55] },
+            watchdog: Watchdog {
+                count: bytes[56],
+                flag: bytes[51] == 1,
+            },
+        },
+    }
+}
+
+// Bytes 40 to 57.
 fn settings_of(bytes: &[u8]) -> SettingsRead
     requires { ⌜ length (now bytes) ≡ 64 ⌝ }
     ensures { λ r. ⌜ r ≡ settingsRead (now (bytes .entry)) ⌝ }
@@ -389,18 +428,7 @@ fn settings_of(bytes: &[u8]) -> SettingsRead
             on: bytes[49] == 1,
             rate: bytes[48],
         },
-        counters: Counters {
-            prescaler: Prescaler { count: bytes[52] },
-            toner: Toner { count: bytes[53] },
-            timer: Timer {
-                divider: Divider { count: bytes[54] },
-                base: BaseCounter { count: bytes[55] },
-                watchdog: Watchdog {
-                    count: bytes[56],
-                    flag: bytes[51] == 1,
-                },
-            },
-        },
+        counters: counters_of(bytes),
         test: bytes[57] == 1,
     })
 }
@@ -628,6 +656,18 @@ fn put_32(block: [u8; 32], at: usize, out: &mut [u8])
     }
 }
 
+// Bytes over a buffer from a place on.
+fn put(block: &[u8], at: usize, out: &mut [u8])
+    requires { ⌜ at + length (now block) ≤ length (now out) ⌝ }
+    ensures { λ _. ⌜ now (out .exit) ≡ over (now (out .entry)) at (now (block .entry)) ⌝ }
+{
+    let mut i: usize = 0;
+    while i < block.len() {
+        out[at + i] = block[i];
+        i += 1;
+    }
+}
+
 // The chip's 64 bytes over the start of a buffer.
 pub fn write(chip: Chip, out: &mut [u8]) -> Written
     ensures { λ r. ⌜ (r ≡ writtenAs (now (out .entry))) × (now (out .exit) ≡ writtenOver chip (now (out .entry))) ⌝ }
@@ -641,4 +681,65 @@ pub fn write(chip: Chip, out: &mut [u8]) -> Written
     put_32(memory, 0, out);
     put_32(tail, 32, out);
     Written::Bytes(64)
+}
+
+// Bytes 32 to 39.
+fn frame_bytes(port: Port) -> [u8; 8]
+    ensures { λ r. ⌜ r ≡ frameBytes port ⌝ }
+{
+    let levels = port.levels;
+    let phase = port.phase;
+    let line = port.line;
+    let value = value_of(phase);
+    [
+        lines_number(levels),
+        phase_number(phase),
+        phase.unfinished(),
+        (value % 256) as u8,
+        (value / 256) as u8,
+        phase.address(),
+        position_of(phase),
+        line.number(),
+    ]
+}
+
+// Of a record that a buffer holds, the port's bytes alone, 0 to 39: for a chip whose settings are as they were.
+pub fn write_port(port: Port, out: &mut [u8]) -> Written
+    ensures { λ r. ⌜ (r ≡ partWrittenAs 40 (now (out .entry))) × (now (out .exit) ≡ portOver port (now (out .entry))) ⌝ }
+{
+    if out.len() < 64 {
+        return Written::Refused(Refusal::OutputShort);
+    }
+    let memory = port.memory;
+    let frame = frame_bytes(port);
+    put_32(memory, 0, out);
+    put(&frame, 32, out);
+    Written::Bytes(40)
+}
+
+// Bytes 51 to 56.
+fn counter_bytes(counters: Counters) -> [u8; 6]
+    ensures { λ r. ⌜ r ≡ counterBytes counters ⌝ }
+{
+    [
+        counters.timer.watchdog.flag as u8,
+        counters.prescaler.count,
+        counters.toner.count,
+        counters.timer.divider.count,
+        counters.timer.base.count,
+        counters.timer.watchdog.count,
+    ]
+}
+
+// Of a record that a buffer holds, the counters' bytes alone, 51 to 56: for a chip of which nothing else has changed.
+pub fn write_counters(counters: Counters, out: &mut [u8]) -> Written
+    ensures { λ r. ⌜ (r ≡ partWrittenAs 6 (now (out .entry)))
+        × (now (out .exit) ≡ countersOver counters (now (out .entry))) ⌝ }
+{
+    if out.len() < 64 {
+        return Written::Refused(Refusal::OutputShort);
+    }
+    let block = counter_bytes(counters);
+    put(&block, 51, out);
+    Written::Bytes(6)
 }

@@ -1,4 +1,4 @@
--- `simulator::advance` meets its contract: a malformed record is left, any other written again. Assumes nothing.
+-- `simulator::advance` meets its contract: a malformed record is left, of any other the counters are written. Assumes nothing.
 use mathlib.Core.Path.{_∙_, sym}
 use Rattle.simulator.proofs.SimulatorLaws.{advance-malformed, advance-done}
 use borrow.Author.Needs.{needs}
@@ -25,8 +25,8 @@ returns c =
 advance-requires : tie.Need-advance-requires
 advance-requires c κs = search needs
 
-write-requires : tie.Need-write-requires
-write-requires c κs = search needs
+write-counters-requires : tie.Need-write-counters-requires
+write-counters-requires c κs = search needs
 
 same-length-2 : tie.Need-same-length-2
 same-length-2 c = search needs
@@ -34,12 +34,12 @@ same-length-2 c = search needs
 returns-2 : tie.Need-returns-2
 returns-2 c =
     let written = c .before .before in
-    let ticked = written .before .before in
+    let ticked = written .before .before .before .before in
     let tested = ticked .before .before in
     let read = tested .before .before in
     let start = read .before .before .before in
     advance-done (start .args .bytes .now) (read .read .result) (read .read .ensures) (start .args .n) (ticked .advance .result) _
-    (sym (tested .before .refused-by .ensures) ∙ tested .if1 .left) (ticked .advance .ensures) (written .write .ensures .1)
+    (sym (tested .before .refused-by .ensures) ∙ tested .if1 .left) (ticked .advance .ensures) (written .write-counters .ensures .1)
 
 pub advance-spec : {M : Type 1} → statement M
 advance-spec =
@@ -50,6 +50,6 @@ advance-spec =
     same-length
     returns
     advance-requires
-    write-requires
+    write-counters-requires
     same-length-2
     returns-2)

@@ -1,6 +1,6 @@
 -- `simulator::step` meets its contract: each refusal leaves early, and what is left is written. Assumes nothing.
 use mathlib.Core.Path.{_∙_, sym}
-use Rattle.simulator.proofs.SimulatorLaws.{step-malformed, step-above, step-taken}
+use Rattle.simulator.proofs.SimulatorLaws.{step-malformed, step-above, step-obeyed, step-kept}
 use borrow.Author.Needs.{needs}
 use Rattle.simulator.proofs.step.Statement.{statement}
 use Rattle.simulator.proofs.step.Tie as tie
@@ -45,14 +45,33 @@ same-length-3 c = search needs
 returns-3 : tie.Need-returns-3
 returns-3 c =
     let written = c .before .before in
-    let taken = written .before .before .before in
+    let taken = written .before .before .before .before .before in
     let low = taken .before .before in
     let tested = low .before in
     let read = tested .before .before in
     let start = read .before .before .before in
-    step-taken (start .args .bytes .now) (read .read .result) (read .read .ensures) (start .args .sample) (taken .via-place .result) _
+    step-obeyed (start .args .bytes .now) (read .read .result) (read .read .ensures) (start .args .sample) (taken .via-place .result) _
     (sym (tested .before .refused-by .ensures) ∙ tested .if1 .left) (low .if2 .left) (taken .via-place .ensures)
     (written .write .ensures .1)
+
+write-port-requires : tie.Need-write-port-requires
+write-port-requires c κs = search needs
+
+same-length-4 : tie.Need-same-length-4
+same-length-4 c = search needs
+
+returns-4 : tie.Need-returns-4
+returns-4 c =
+    let written = c .before .before in
+    let kept = written .before .before .before in
+    let taken = kept .before .before .before in
+    let low = taken .before .before in
+    let tested = low .before in
+    let read = tested .before .before in
+    let start = read .before .before .before in
+    step-kept (start .args .bytes .now) (read .read .result) (read .read .ensures) (start .args .sample) (taken .via-place .result) _
+    (sym (tested .before .refused-by .ensures) ∙ tested .if1 .left) (low .if2 .left) (taken .via-place .ensures)
+    (kept .if3 .left) (written .write-port .ensures .1)
 
 pub step-spec : {M : Type 1} → statement M
 step-spec =
@@ -67,4 +86,7 @@ step-spec =
     via-place-requires
     write-requires
     same-length-3
-    returns-3)
+    returns-3
+    write-port-requires
+    same-length-4
+    returns-4)

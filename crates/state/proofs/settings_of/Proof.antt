@@ -1,7 +1,8 @@
 -- `state::settings_of` meets its contract: each selection decides in turn. Assumes nothing.
 use mathlib.Core.Path.{_∙_, sym}
 use Rattle.state.specs.Answers.{settingsRead}
-use Rattle.state.specs.Record.{settingsRight, settingsOf}
+use Rattle.state.specs.Record.{settingsRight}
+use native.Mathlib.Omega.{arith}
 use borrow.Author.Needs.{needs}
 use Rattle.state.proofs.settings_of.Statement.{statement}
 use Rattle.state.proofs.settings_of.Tie as tie
@@ -19,7 +20,7 @@ enum-told : tie.Need-enum-told
 enum-told c = search needs
 
 returns : tie.Need-returns
-unfolding settingsRead settingsRight settingsOf
+unfolding settingsRead settingsRight
 returns c =
     simp (sym (c .before .before .source-of .ensures) ∙ c .enum-told .given .1)
 
@@ -36,7 +37,7 @@ enum-told-2 : tie.Need-enum-told-2
 enum-told-2 c = search needs
 
 returns-2 : tie.Need-returns-2
-unfolding settingsRead settingsRight settingsOf
+unfolding settingsRead settingsRight
 returns-2 c =
     let source = c .before .before .before .before .before in
     simp (
@@ -57,7 +58,7 @@ enum-told-3 : tie.Need-enum-told-3
 enum-told-3 c = search needs
 
 returns-3 : tie.Need-returns-3
-unfolding settingsRead settingsRight settingsOf
+unfolding settingsRead settingsRight
 returns-3 c =
     let bias = c .before .before .before .before .before in
     let source = bias .before .before .before .before .before in
@@ -80,7 +81,7 @@ enum-told-4 : tie.Need-enum-told-4
 enum-told-4 c = search needs
 
 returns-4 : tie.Need-returns-4
-unfolding settingsRead settingsRight settingsOf
+unfolding settingsRead settingsRight
 returns-4 c =
     let commons = c .before .before .before .before .before in
     let bias = commons .before .before .before .before .before in
@@ -105,7 +106,7 @@ enum-told-5 : tie.Need-enum-told-5
 enum-told-5 c = search needs
 
 returns-5 : tie.Need-returns-5
-unfolding settingsRead settingsRight settingsOf
+unfolding settingsRead settingsRight
 returns-5 c =
     let pitch = c .before .before .before .before .before in
     let commons = pitch .before .before .before .before .before in
@@ -137,36 +138,29 @@ shared-slice-read-t34 c = search needs
 shared-slice-read-t37 : tie.Need-shared-slice-read-t37
 shared-slice-read-t37 c = search needs
 
-shared-slice-read-t40 : tie.Need-shared-slice-read-t40
-shared-slice-read-t40 c = search needs
+counters-of-requires : tie.Need-counters-of-requires
+counters-of-requires c κs = search needs
 
-shared-slice-read-t43 : tie.Need-shared-slice-read-t43
-shared-slice-read-t43 c = search needs
-
-shared-slice-read-t46 : tie.Need-shared-slice-read-t46
-shared-slice-read-t46 c = search needs
-
-shared-slice-read-t49 : tie.Need-shared-slice-read-t49
-shared-slice-read-t49 c = search needs
-
-shared-slice-read-t52 : tie.Need-shared-slice-read-t52
-shared-slice-read-t52 c = search needs
-
-shared-slice-read-t54 : tie.Need-shared-slice-read-t54
-shared-slice-read-t54 c = search needs
-
-shared-slice-read-t60 : tie.Need-shared-slice-read-t60
-shared-slice-read-t60 c = search needs
+shared-slice-read-t41 : tie.Need-shared-slice-read-t41
+shared-slice-read-t41 c =
+    let irq = c .before .before .before .before .before .before .before .before .before in
+    let pitch = irq .before .before .before .before .before in
+    let commons = pitch .before .before .before .before .before in
+    let bias = commons .before .before .before .before .before in
+    let source = bias .before .before .before .before .before in
+    omega (arith, source .before .before .before .before .before .pre)
 
 returns-6 : tie.Need-returns-6
-unfolding settingsRead settingsRight settingsOf
+unfolding settingsRead settingsRight
 returns-6 c =
-    let irq = c .before .before .before .before .before .before .before .before .before .before .before .before .before .before in
+    let counters = c .before in
+    let irq = counters .before .before .before .before .before .before .before .before in
     let pitch = irq .before .before .before .before .before in
     let commons = pitch .before .before .before .before .before in
     let bias = commons .before .before .before .before .before in
     let source = bias .before .before .before .before .before in
     simp (
+      counters .counters-of .ensures,
       sym (irq .before .before .irq-source-of .ensures) ∙ irq .irq .given .1,
       sym (pitch .before .before .pitch-of .ensures) ∙ pitch .pitch .given .1,
       sym (commons .before .before .commons-of .ensures) ∙ commons .commons .given .1,
@@ -209,11 +203,6 @@ settings-of-spec =
     shared-slice-read-t30
     shared-slice-read-t34
     shared-slice-read-t37
-    shared-slice-read-t40
-    shared-slice-read-t43
-    shared-slice-read-t46
-    shared-slice-read-t49
-    shared-slice-read-t52
-    shared-slice-read-t54
-    shared-slice-read-t60
+    counters-of-requires
+    shared-slice-read-t41
     returns-6)
