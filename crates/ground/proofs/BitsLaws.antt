@@ -1,10 +1,13 @@
 -- Laws of bits. Assumes nothing.
-use mathlib.Core.Path.{_≡_, refl}
+use mathlib.Core.Path.{_≡_, _∙_, refl, sym, ap}
 use mathlib.Core.Bool.{Bool, true, false}
+use mathlib.Core.List.{List, map}
 use Prim.Native.Nat.{ℕ, zero, suc, _/_, _%_, _^_, _≤_, _<_}
 use native.Mathlib.Nat.{div-eq-of-lt, lt-of-lt-of-le, mod-lt}
 use native.Mathlib.Omega.{arith}
+use lib.Bits.{bitAnd, and-zero-l}
 use lib.Dec.{eqb}
+use lib.ListN.{getD, List·getD-map}
 use lib.Pow.{pow-mono}
 use mir.Val.{boolByte}
 use Rattle.ground.specs.Bits.{bitNumber, bitAt}
@@ -13,6 +16,11 @@ use Rattle.ground.specs.Bits.{bitNumber, bitAt}
 pub boolByte-small : (bit : Bool) → boolByte bit ≤ 1
 boolByte-small true = omega arith
 boolByte-small false = omega arith
+
+-- each number under a mask
+pub masked-at : (mask : ℕ) (l : List ℕ) (i : ℕ) → getD (map (λ n. bitAnd n mask) l) i 0 ≡ bitAnd (getD l i 0) mask
+masked-at mask l i =
+    ap (getD (map (λ n. bitAnd n mask) l) i) (sym (and-zero-l mask)) ∙ List·getD-map (λ n. bitAnd n mask) l i 0
 
 -- a byte has no bit above the seventh
 pub bitAt-past : (i n : ℕ) → n < 256 → 8 ≤ i → bitAt i n ≡ false

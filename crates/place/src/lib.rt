@@ -29,10 +29,7 @@ fn with_number(before: Chip, sample: u8) -> Numbered
     let answer = done.answer;
     let number = code_of(answer);
     let next = done.chip;
-    Numbered {
-        chip: next,
-        number: number,
-    }
+    Numbered { chip: next, number }
 }
 
 // A sample on a chip that stands where the caller keeps it: the chip after it stands there, and its answer is returned
@@ -54,6 +51,6 @@ pub fn via_place(chip: Chip, sample: u8) -> Numbered
     let number = step_in_place(&mut standing, sample);
     Numbered {
         chip: standing,
-        number: number,
+        number,
     }
 }

@@ -1,24 +1,28 @@
 -- What each exported call returns and leaves, by what was read. Assumes nothing.
 use mathlib.Core.Path.{_≡_, _∙_, refl, sym, ap}
 use mathlib.Core.Bool.{Bool, true, false, cond}
-use mathlib.Core.List.{List, _++_, append-nil}
-use Prim.Native.Nat.{ℕ, zero, suc, _+_, _%_, _≤_, _<_}
+use mathlib.Core.List.{List, _++_, map, append-nil}
+use Prim.Native.Nat.{ℕ, zero, suc, _+_, _*_, _%_, _≤_, _<_}
 use native.Mathlib.Omega.{arith}
-use lib.ListN.{length, drop, drop-of-length-le}
+use lib.Bits.{bitAnd}
+use lib.ListN.{length, take, drop, drop-of-length-le}
 use borrow.Author.Tests.{lt-ltb, le-ltb}
+use Rattle.ground.specs.declared.Refusal.{Refusal}
+use Rattle.ground.specs.Bits.{bitNumber}
 use Rattle.ground.specs.Written.{over}
 use Rattle.clock.specs.declared.Counters.{Counters}
 use Rattle.clock.specs.Ticks.{countersTicked}
 use Rattle.rules.specs.declared.Settings.{Settings}
 use Rattle.rules.specs.Settings.{countersTo}
 use Rattle.rules.specs.Ticks as ticks
+use Rattle.pins.specs.Pins.{irqLow, bzHigh, partnerHigh, shownNibble}
+use Rattle.pins.proofs.PinsLaws.{shown-under-mask}
 use Rattle.frames.specs.declared.Answer.{Answer}
 use Rattle.frames.specs.declared.Answer.the-variants.{Nothing, Opened, Closed, Dropped, Taken, Stored, Obeyed, Passed, Offered, Stray, Unknown, Clash, Refused}
 use Rattle.frames.specs.Samples.{levels}
 use Rattle.frames.specs.Answers.{act}
 use Rattle.chip.specs.declared.Chip.{Chip}
 use Rattle.chip.specs.declared.Stepped.{Stepped}
-use Rattle.chip.specs.declared.Pins.{Pins}
 use Rattle.chip.specs.Chip.{settingsAfter, moved, steppedAs, stepped, advanced}
 use Rattle.chip.specs.Pins.{pinsShown}
 use Rattle.chip.specs.Valid.{Valid}
@@ -26,42 +30,50 @@ use Rattle.chip.proofs.ValidLaws.{stepped-valid}
 use Rattle.place.specs.declared.Numbered.{Numbered}
 use Rattle.place.specs.Place.{answerCode, numbered}
 use Rattle.state.specs.declared.Reading.{Reading}
+use Rattle.state.specs.declared.SettingsRead.{SettingsRead}
+use Rattle.state.specs.declared.SettingsRead.the-variants.{Set, NoSettings}
 use Rattle.state.specs.declared.Verdict.the-variants as verdict
-use Rattle.state.specs.Record.{recordValid, recordOf, chipOf}
-use Rattle.state.specs.Answers.{verdictNumber, malformed, readOf, writtenOver, portOver, countersOver}
-use Rattle.state.proofs.TripLaws.{RecordHas, valid-has}
+use Rattle.state.specs.Record.{byte, recordValid, recordOf, chipOf}
+use Rattle.state.specs.Answers.{malformed, readOf, settingsIn, writtenOver, portOver, countersOver}
+use Rattle.state.proofs.RecordLaws.{settings-none, settings-found}
+use Rattle.state.proofs.CodesLaws.{line-again}
+use Rattle.state.proofs.TripLaws.{valid-has, within}
 use Rattle.state.proofs.ChipLaws.{valid-chip, chip-valid}
 use Rattle.state.proofs.PartLaws.{port-part, counters-part}
 use Rattle.simulator.specs.Simulator.{pinsCode, stepReturns, stepBytes, advanceReturns, advanceBytes, pinsReturns, pinsBytes}
 
 -- ---- what was read tells whether the record is valid
 
-accepted : (t : Bool) (chip : Chip) → verdictNumber (cond t (record { answer = verdict.Valid; chip = chip }) malformed .answer) ≡ 0
-    → t ≡ true
-accepted true chip z = refl
-accepted false chip z = let no : ⊥ = omega (arith, z) in absurd no
-
-refused : (t : Bool) (chip : Chip)
-    → (verdictNumber (cond t (record { answer = verdict.Valid; chip = chip }) malformed .answer) ≡ 0 → ⊥) → t ≡ false
-refused true chip z = absurd (z refl)
-refused false chip z = refl
-
 module _ (b : List ℕ) (reading : Reading) (e : reading ≡ readOf b) where
-  valid : verdictNumber (reading .answer) ≡ 0 → recordValid b ≡ true
+  valid : reading .answer ≡ verdict.Valid → recordValid b ≡ true
   unfolding readOf
-  valid z = accepted (recordValid b) (chipOf b) (sym (ap (λ (r : Reading). verdictNumber (r .answer)) e) ∙ z)
+  valid z = by (recordValid b) (sym (ap (λ (r : Reading). r .answer) e) ∙ z)
+    where
+      by : (t : Bool) → cond t (record { answer = verdict.Valid; chip = chipOf b }) malformed .answer ≡ verdict.Valid → t ≡ true
+      by true z = refl
+      by false z = cc
 
-  invalid : (verdictNumber (reading .answer) ≡ 0 → ⊥) → recordValid b ≡ false
+  invalid : (refusal : Refusal) → reading .answer ≡ verdict.Refused refusal → recordValid b ≡ false
   unfolding readOf
-  invalid z = refused (recordValid b) (chipOf b) (λ y. z (ap (λ (r : Reading). verdictNumber (r .answer)) e ∙ y))
+  invalid refusal z = by (recordValid b) (sym (ap (λ (r : Reading). r .answer) e) ∙ z)
+    where
+      by : (t : Bool) → cond t (record { answer = verdict.Valid; chip = chipOf b }) malformed .answer ≡ verdict.Refused refusal
+          → t ≡ false
+      by true z = cc
+      by false z = refl
 
   says : recordValid b ≡ true → reading .chip ≡ chipOf b
   unfolding readOf
   says v = ap (λ (r : Reading). r .chip) e ∙ rw v
 
-  number : recordValid b ≡ false → verdictNumber (reading .answer) ≡ 28
-  unfolding readOf
-  number v = ap (λ (r : Reading). verdictNumber (r .answer)) e ∙ rw v
+module _ (b : List ℕ) (found : SettingsRead) (e : found ≡ settingsIn b) where
+  none : found ≡ NoSettings → recordValid b ≡ false
+  unfolding settingsIn chipOf
+  none z = settings-none (recordValid b) (chipOf b .settings) (sym e ∙ z)
+
+  there : (s : Settings) → found ≡ Set s → (recordValid b ≡ true) × (chipOf b .settings ≡ s)
+  unfolding settingsIn chipOf
+  there s z = settings-found (recordValid b) (chipOf b .settings) s (sym e ∙ z)
 
 -- ---- a valid chip written over a record of its length leaves its record
 
@@ -117,87 +129,90 @@ counters-alone (suc n) s = tick-alone (ticks.advanced n (ticks.ticked s) .counte
 -- ---- step
 
 module _ (b : List ℕ) (reading : Reading) (e : reading ≡ readOf b) (sample : ℕ) where
-  pub step-malformed : (verdictNumber (reading .answer) ≡ 0 → ⊥)
-      → (verdictNumber (reading .answer) ≡ stepReturns b sample) × (b ≡ stepBytes b sample)
+  pub step-malformed : (refusal : Refusal) → reading .answer ≡ verdict.Refused refusal
+      → (28 ≡ stepReturns b sample) × (b ≡ stepBytes b sample)
   unfolding stepReturns stepBytes
-  step-malformed z = let v = invalid b reading e z in (number b reading e v ∙ rw v, rw v)
+  step-malformed refusal z = let v = invalid b reading e refusal z in (rw v, rw v)
 
-  pub step-above : verdictNumber (reading .answer) ≡ 0 → 15 < sample → (20 ≡ stepReturns b sample) × (b ≡ stepBytes b sample)
-  unfolding stepReturns stepBytes
-  step-above z h = let v = valid b reading e z in (simp (v, lt-ltb _ _ h), simp (v, lt-ltb _ _ h))
+  module _ (z : reading .answer ≡ verdict.Valid) where
+    pub step-above : 15 < sample → (20 ≡ stepReturns b sample) × (b ≡ stepBytes b sample)
+    unfolding stepReturns stepBytes
+    step-above h = let v = valid b reading e z in (simp (v, lt-ltb _ _ h), simp (v, lt-ltb _ _ h))
 
-  module _ (done : Numbered) (after : List ℕ) (z : verdictNumber (reading .answer) ≡ 0) (h : sample ≤ 15)
-      (d : done ≡ numbered (reading .chip) sample) where
-    same : done ≡ numbered (chipOf b) sample
-    same = d ∙ ap (λ (c : Chip). numbered c sample) (says b reading e (valid b reading e z))
+    module _ (done : Numbered) (after : List ℕ) (h : sample ≤ 15) (d : done ≡ numbered (reading .chip) sample) where
+      same : done ≡ numbered (chipOf b) sample
+      same = d ∙ ap (λ (c : Chip). numbered c sample) (says b reading e (valid b reading e z))
 
-    next-valid : Valid (stepped (chipOf b) sample .chip)
-    next-valid = stepped-valid (chipOf b) sample (valid-chip b (valid b reading e z))
+      next-valid : Valid (stepped (chipOf b) sample .chip)
+      next-valid = stepped-valid (chipOf b) sample (valid-chip b (valid b reading e z))
 
-    returned : done .number ≡ stepReturns b sample
-    unfolding stepReturns
-    returned = ap (λ (s : Numbered). s .number) same ∙ simp (valid b reading e z, le-ltb _ _ h)
+      returned : done .number ≡ stepReturns b sample
+      unfolding stepReturns
+      returned = ap (λ (s : Numbered). s .number) same ∙ simp (valid b reading e z, le-ltb _ _ h)
 
-    left : recordOf (stepped (chipOf b) sample .chip) ≡ stepBytes b sample
-    unfolding stepBytes
-    left = simp (valid b reading e z, le-ltb _ _ h)
+      left : recordOf (stepped (chipOf b) sample .chip) ≡ stepBytes b sample
+      unfolding stepBytes
+      left = simp (valid b reading e z, le-ltb _ _ h)
 
-    pub step-obeyed : after ≡ writtenOver (done .chip) b → (done .number ≡ stepReturns b sample) × (after ≡ stepBytes b sample)
-    step-obeyed w = (
-      returned,
-      w ∙ ap (λ (s : Numbered). writtenOver (s .chip) b) same
-          ∙ written-over b (stepped (chipOf b) sample .chip) (valid-has b (valid b reading e z) .long) next-valid ∙ left,
-    )
+      pub step-obeyed : after ≡ writtenOver (done .chip) b → (done .number ≡ stepReturns b sample) × (after ≡ stepBytes b sample)
+      step-obeyed w = (
+        returned,
+        w ∙ ap (λ (s : Numbered). writtenOver (s .chip) b) same
+            ∙ written-over b (stepped (chipOf b) sample .chip) (valid-has b (valid b reading e z) .long) next-valid ∙ left,
+      )
 
-    pub step-kept : (done .number % 256 ≡ 6 → ⊥) → after ≡ portOver (done .chip .port) b
-        → (done .number ≡ stepReturns b sample) × (after ≡ stepBytes b sample)
-    step-kept none w = (
-      returned,
-      w ∙ ap (λ (s : Numbered). portOver (s .chip .port) b) same
-          ∙ port-part b (valid b reading e z) (stepped (chipOf b) sample .chip .port) (next-valid .port .size)
-          ∙ ap recordOf (port-alone (chipOf b) sample h (λ y. none (ap (λ (s : Numbered). s .number % 256) same ∙ y))) ∙ left,
-    )
+      pub step-kept : (done .number % 256 ≡ 6 → ⊥) → after ≡ portOver (done .chip .port) b
+          → (done .number ≡ stepReturns b sample) × (after ≡ stepBytes b sample)
+      step-kept none w = (
+        returned,
+        w ∙ ap (λ (s : Numbered). portOver (s .chip .port) b) same
+            ∙ port-part b (valid b reading e z) (stepped (chipOf b) sample .chip .port) (next-valid .port .size)
+            ∙ ap recordOf (port-alone (chipOf b) sample h (λ y. none (ap (λ (s : Numbered). s .number % 256) same ∙ y))) ∙ left,
+      )
 
 -- ---- advance
 
-module _ (b : List ℕ) (reading : Reading) (e : reading ≡ readOf b) (n : ℕ) where
-  pub advance-malformed : (verdictNumber (reading .answer) ≡ 0 → ⊥)
-      → (verdictNumber (reading .answer) ≡ advanceReturns b) × (b ≡ advanceBytes b n)
+module _ (b : List ℕ) (found : SettingsRead) (e : found ≡ settingsIn b) (n : ℕ) where
+  pub advance-malformed : found ≡ NoSettings → (28 ≡ advanceReturns b) × (b ≡ advanceBytes b n)
   unfolding advanceReturns advanceBytes
-  advance-malformed z = let v = invalid b reading e z in (number b reading e v ∙ rw v, rw v)
+  advance-malformed z = let v = none b found e z in (rw v, rw v)
 
-  pub advance-done : (done : Chip) (after : List ℕ) → verdictNumber (reading .answer) ≡ 0
-      → done ≡ advanced n (reading .chip) → after ≡ countersOver (done .settings .counters) b
-      → (0 ≡ advanceReturns b) × (after ≡ advanceBytes b n)
+  pub advance-done : (settings next : Settings) (after : List ℕ) → found ≡ Set settings → next ≡ ticks.advanced n settings
+      → after ≡ countersOver (next .counters) b → (0 ≡ advanceReturns b) × (after ≡ advanceBytes b n)
   unfolding advanceReturns advanceBytes
-  advance-done done after z d w =
-      let v = valid b reading e z in
-      let same : done ≡ advanced n (chipOf b) = d ∙ ap (advanced n) (says b reading e v) in (
-        rw v,
-        w ∙ ap (λ (c : Chip). countersOver (c .settings .counters) b) same
-            ∙ counters-part b v (ticks.advanced n (chipOf b .settings) .counters)
-            ∙ ap (λ (s : Settings). recordOf (record { port = chipOf b .port; settings = s })) (counters-alone n (chipOf b .settings)) ∙ rw v,
+  advance-done settings next after z d w =
+      let v = there b found e settings z in
+      let same : next ≡ ticks.advanced n (chipOf b .settings) = d ∙ ap (ticks.advanced n) (sym (v .1)) in (
+        rw (v .0),
+        w ∙ ap (λ (s : Settings). countersOver (s .counters) b) same
+            ∙ counters-part b (v .0) (ticks.advanced n (chipOf b .settings) .counters)
+            ∙ ap (λ (s : Settings). recordOf (record { port = chipOf b .port; settings = s })) (counters-alone n (chipOf b .settings)) ∙ rw (v .0),
       )
 
 -- ---- pins
 
-module _ (b out : List ℕ) (reading : Reading) (e : reading ≡ readOf b) where
-  pub pins-malformed : (verdictNumber (reading .answer) ≡ 0 → ⊥)
-      → (verdictNumber (reading .answer) ≡ pinsReturns b out) × (out ≡ pinsBytes b out)
+module _ (b out : List ℕ) (found : SettingsRead) (e : found ≡ settingsIn b) where
+  pub pins-malformed : found ≡ NoSettings → (28 ≡ pinsReturns b out) × (out ≡ pinsBytes b out)
   unfolding pinsReturns pinsBytes
-  pins-malformed z = let v = invalid b reading e z in (number b reading e v ∙ rw v, rw v)
+  pins-malformed z = let v = none b found e z in (rw v, rw v)
 
-  pub pins-short : verdictNumber (reading .answer) ≡ 0 → length out < 32 → (25 ≡ pinsReturns b out) × (out ≡ pinsBytes b out)
-  unfolding pinsReturns pinsBytes
-  pins-short z h = let v = valid b reading e z in (simp (v, lt-ltb _ _ h), simp (v, lt-ltb _ _ h))
+  module _ (settings : Settings) (z : found ≡ Set settings) where
+    pub pins-short : length out < 32 → (25 ≡ pinsReturns b out) × (out ≡ pinsBytes b out)
+    unfolding pinsReturns pinsBytes
+    pins-short h = let v = there b found e settings z .0 in (simp (v, lt-ltb _ _ h), simp (v, lt-ltb _ _ h))
 
-  pub pins-shown : (shown : Pins) (code : ℕ) (after : List ℕ) → verdictNumber (reading .answer) ≡ 0 → 32 ≤ length out
-      → shown ≡ pinsShown (reading .chip) → after ≡ over out 0 (shown .cells) → code ≡ pinsCode shown
-      → (code ≡ pinsReturns b out) × (after ≡ pinsBytes b out)
-  unfolding pinsReturns pinsBytes
-  pins-shown shown code after z h d w a =
-      let v = valid b reading e z in
-      let same : shown ≡ pinsShown (chipOf b) = d ∙ ap pinsShown (says b reading e v) in (
-        a ∙ ap pinsCode same ∙ simp (v, le-ltb _ _ h),
-        w ∙ ap (λ (p : Pins). over out 0 (p .cells)) same ∙ simp (v, le-ltb _ _ h),
-      )
+    pub pins-long : length b ≡ 64
+    pins-long = valid-has b (there b found e settings z .0) .long
+
+    -- byte 39 is the number of what it reads to
+    pub pins-shown : (mask code : ℕ) (after : List ℕ) → 32 ≤ length out → mask ≡ shownNibble settings 15
+        → after ≡ over out 0 (map (λ n. bitAnd n mask) (take 32 b))
+        → code ≡ bitNumber (irqLow settings) + 2 * bitNumber (bzHigh settings) + 4 * bitNumber (partnerHigh settings) + 8 * byte b 39
+        → (code ≡ pinsReturns b out) × (after ≡ pinsBytes b out)
+    unfolding pinsReturns pinsBytes pinsCode pinsShown chipOf
+    pins-shown mask code after h m w a =
+        let v = there b found e settings z in
+        let line = line-again (byte b 39) (within b (valid-has b (v .0)) 39 (omega arith)) in (
+          a ∙ simp (v .0, le-ltb _ _ h, v .1, line),
+          w ∙ simp (v .0, le-ltb _ _ h, v .1, m, shown-under-mask),
+        )

@@ -1,43 +1,38 @@
 // The simulator's library for C: the host keeps the chip as a 64-byte record and lends it to each call. A refused call
 // returns the refusal's number and changes no byte. Assumes nothing.
 ghost use mathlib.Core.Path.{_≡_};
-ghost use Prim.Native.Nat.{_≤_};
-ghost use lib.ListN.{length};
+ghost use mathlib.Core.List.{map};
+ghost use Prim.Native.Nat.{_+_, _*_, _≤_};
+ghost use lib.Bits.{bitAnd};
+ghost use lib.ListN.{length, take};
+ghost use Rattle.ground.specs.Bits.{bitNumber};
 ghost use Rattle.ground.specs.Written.{over};
-ghost use Rattle.state.specs.Answers.{verdictNumber};
+ghost use Rattle.pins.specs.Pins.{irqLow, bzHigh, partnerHigh};
 ghost use Rattle.simulator.specs.Simulator.{stepReturns, stepBytes, advanceReturns, advanceBytes};
-ghost use Rattle.simulator.specs.Simulator.{pinsCode, pinsReturns, pinsBytes};
-use chip::Pins;
-use ground::Refusal;
+ghost use Rattle.simulator.specs.Simulator.{pinsReturns, pinsBytes};
+use rules::Settings;
+use state::SettingsRead;
 use state::Verdict;
 
-// 0 for a valid record, else the refusal's number.
-fn refused_by(verdict: Verdict) -> u32
-    ensures { λ r. ⌜ r ≡ verdictNumber verdict ⌝ }
+// The pins but for the cells, as one number: IRQ, BZ and its partner by the settings, and byte 39.
+fn pins_code(settings: Settings, line: u8) -> u32
+    ensures { λ r. ⌜ r ≡ bitNumber (irqLow settings) + 2 * bitNumber (bzHigh settings) + 4 * bitNumber (partnerHigh settings) + 8 * line ⌝ }
 {
-    match verdict {
-        Verdict::Valid => 0,
-        Verdict::Refused(refusal) => refusal.number() as u32,
-    }
+    let irq = pins::irq_low(settings);
+    let bz = pins::bz_high(settings);
+    let partner = pins::partner_high(settings);
+    (irq as u32) + 2 * (bz as u32) + 4 * (partner as u32) + 8 * (line as u32)
 }
 
-// The pins as one number.
-fn pins_code(pins: Pins) -> u32
-    ensures { λ r. ⌜ r ≡ pinsCode pins ⌝ }
-{
-    let line = pins.line;
-    let driven = line.number() as u32;
-    (pins.irq as u32) + 2 * (pins.bz as u32) + 4 * (pins.partner as u32) + 8 * driven
-}
-
-// The cells over the start of a buffer.
-fn show(cells: [u8; 32], out: &mut [u8])
+// The memory's bytes under a mask over the start of a buffer.
+fn show(bytes: &[u8], mask: u8, out: &mut [u8])
+    requires { ⌜ 32 ≤ length (now bytes) ⌝ }
     requires { ⌜ 32 ≤ length (now out) ⌝ }
-    ensures { λ _. ⌜ now (out .exit) ≡ over (now (out .entry)) 0 cells ⌝ }
+    ensures { λ _. ⌜ now (out .exit) ≡ over (now (out .entry)) 0 (map (λ n. bitAnd n mask) (take 32 (now (bytes .entry)))) ⌝ }
 {
     let mut i: usize = 0;
     while i < 32 {
-        out[i] = cells[i];
+        out[i] = bytes[i] & mask;
         i += 1;
     }
 }
@@ -51,10 +46,9 @@ pub extern "C" fn step(bytes: &mut [u8], sample: u8) -> u32
 {
     let reading = state::read(bytes);
     let verdict = reading.answer;
-    let refused = refused_by(verdict);
-    if refused != 0 {
-        return refused;
-    }
+    let Verdict::Valid = verdict else {
+        return 28;
+    };
     if 15 < sample {
         return 20;
     }
@@ -76,16 +70,11 @@ pub extern "C" fn advance(bytes: &mut [u8], n: u16) -> u32
     ensures { λ r. ⌜ (r ≡ advanceReturns (now (bytes .entry)))
         × (now (bytes .exit) ≡ advanceBytes (now (bytes .entry)) n) ⌝ }
 {
-    let reading = state::read(bytes);
-    let verdict = reading.answer;
-    let refused = refused_by(verdict);
-    if refused != 0 {
-        return refused;
-    }
-    let chip = reading.chip;
-    let next = chip.advance(n);
-    let settings = next.settings;
-    let counters = settings.counters;
+    let SettingsRead::Set(settings) = state::settings_in(bytes) else {
+        return 28;
+    };
+    let next = settings.advanced(n);
+    let counters = next.counters;
     state::write_counters(counters, bytes);
     0
 }
@@ -96,18 +85,13 @@ pub extern "C" fn pins(bytes: &[u8], out: &mut [u8]) -> u32
     ensures { λ r. ⌜ (r ≡ pinsReturns (now (bytes .entry)) (now (out .entry)))
         × (now (out .exit) ≡ pinsBytes (now (bytes .entry)) (now (out .entry))) ⌝ }
 {
-    let reading = state::read(bytes);
-    let verdict = reading.answer;
-    let refused = refused_by(verdict);
-    if refused != 0 {
-        return refused;
-    }
+    let SettingsRead::Set(settings) = state::settings_in(bytes) else {
+        return 28;
+    };
     if out.len() < 32 {
         return 25;
     }
-    let chip = reading.chip;
-    let shown = chip.pins();
-    let cells = shown.cells;
-    show(cells, out);
-    pins_code(shown)
+    let mask = pins::shown_mask(settings);
+    show(bytes, mask, out);
+    pins_code(settings, bytes[39])
 }

@@ -236,7 +236,7 @@ tail-fits c v =
 
 frame-right : (lines : ℕ) (cs : Bool) (line : Line) (phase : Phase) → eqb (lines % 2) 1 ≡ cs → FrameValid cs line phase
     → frameRight lines (phaseNumber phase) (unfinished phase) (valueOf phase) (address phase) (positionOf phase) (lineNumber line) ≡ true
-unfolding frameRight goesWithCs bitsRight restRight phaseRead lineRead
+unfolding frameRight goesWithCs bitsRight restRight
 frame-right lines cs line Idle e v = simp (e ∙ v .0, v .1)
 frame-right lines cs line (Ident count value) e v = simp (e ∙ v .0, v .1, le-leb _ _ (v .2 .0), lt-ltb _ _ (v .2 .1))
 frame-right lines cs line (ReadTo count value) e v = simp (e ∙ v .0, v .1, le-leb _ _ (v .2 .0), lt-ltb _ _ (v .2 .1))
@@ -273,7 +273,7 @@ chip-valid c v =
     let m = c .port .memory in
     let e = listed m (v .port .size) in
     let long : length (m ++ tailOf c) ≡ 64 = length-append m (tailOf c) ∙ tail-long c m (v .port .size) in
-    and-both (and-both (and-both (eq-eqb (length (m ++ tailOf c)) 64 long)
-    (upTo-memory 32 m (tailOf c) (drop 32 maxima) (v .port .size) (v .port .nibbles) ∙ tail-fits c v))
-    (ap (λ (k : List ℕ). framesRight (recordOf (spelt k c))) e ∙ spelt-frame m c (v .port .frame)))
+    and-both (and-both (eq-eqb (length (m ++ tailOf c)) 64 long)
+    (and-both (upTo-memory 32 m (tailOf c) (drop 32 maxima) (v .port .size) (v .port .nibbles) ∙ tail-fits c v)
+    (ap (λ (k : List ℕ). framesRight (recordOf (spelt k c))) e ∙ spelt-frame m c (v .port .frame))))
     (ap (λ (k : List ℕ). settingsRight (recordOf (spelt k c))) e ∙ spelt-settings m c)

@@ -29,12 +29,16 @@ use Rattle.frames.specs.declared.Line.the-variants.{Released, Driven}
 use Rattle.frames.specs.Samples.{levels}
 use Rattle.frames.specs.Frames.{address}
 use Rattle.frames.specs.Answers.{unfinished, lineNumber}
+use Rattle.state.specs.declared.PhaseRead.{PhaseRead}
+use Rattle.state.specs.declared.PhaseRead.the-variants.{Phased, NoPhase}
+use Rattle.state.specs.declared.LineRead.{LineRead}
+use Rattle.state.specs.declared.LineRead.the-variants.{Does, NoLine}
 use Rattle.state.specs.declared.SourceRead.the-variants.{From}
 use Rattle.state.specs.declared.BiasRead.the-variants.{Biased}
 use Rattle.state.specs.declared.CommonsRead.the-variants.{Has}
 use Rattle.state.specs.declared.PitchRead.the-variants.{Sounds}
 use Rattle.state.specs.declared.IrqSourceRead.the-variants.{Of}
-use Rattle.state.specs.FrameCodes.{linesNumber, phaseRead, isPhase, phaseIn, phaseNumber, valueOf, positionOf, lineRead, isLine, lineIn}
+use Rattle.state.specs.FrameCodes.{linesNumber, phaseRead, phaseIn, phaseNumber, valueOf, positionOf, lineRead, lineIn}
 use Rattle.state.specs.Selections.{sourceRead, isSource, sourceIn, biasRead, isBias, biasIn, commonsRead, isCommons, commonsIn, pitchRead, isPitch, pitchIn, irqSourceRead, isIrqSource, irqSourceIn}
 
 -- ---- written and read
@@ -147,3 +151,25 @@ unfolding pitchRead
 pitch-again n h e =
     rw e at (agree (λ (k : ℕ). cond (isPitch (pitchRead k)) (pitchNumber (pitchIn (pitchRead k))) k) (λ (k : ℕ). k) 5
     refl n (omega arith))
+
+-- ---- a code in range is the code of something
+
+phase-found : PhaseRead → ℕ
+phase-found (Phased phase) = 1
+phase-found NoPhase = 0
+
+pub phase-there : (code count value at position : ℕ) → code ≤ 7 → phaseRead code count value at position ≡ NoPhase → ⊥
+unfolding phaseRead phase-found
+phase-there code count value at position h e =
+    let found = agree (λ (k : ℕ). phase-found (phaseRead k count value at position)) (λ (k : ℕ). 1) 8 refl code (omega arith) in
+    omega (arith, sym found ∙ ap phase-found e)
+
+line-found : LineRead → ℕ
+line-found (Does line) = 1
+line-found NoLine = 0
+
+pub line-there : (n : ℕ) → n ≤ 2 → lineRead n ≡ NoLine → ⊥
+unfolding lineRead line-found
+line-there n h e =
+    let found = agree (λ (k : ℕ). line-found (lineRead k)) (λ (k : ℕ). 1) 3 refl n (omega arith) in
+    omega (arith, sym found ∙ ap line-found e)

@@ -14,9 +14,9 @@ use Rattle.frames.specs.declared.Line.the-variants.{Released, Driven}
 use Rattle.frames.specs.Frames.{address}
 use Rattle.frames.specs.Answers.{unfinished, lineNumber}
 use Rattle.frames.specs.Valid.{FrameValid}
-use Rattle.state.specs.FrameCodes.{phaseRead, isPhase, phaseIn, phaseNumber, valueOf, positionOf, lineRead, isLine, lineIn}
+use Rattle.state.specs.FrameCodes.{phaseRead, phaseIn, phaseNumber, valueOf, positionOf}
 use Rattle.state.specs.Record.{mostBits, goesWithCs, bitsRight, restRight, frameRight}
-use Rattle.state.proofs.RangesLaws.{and-left, and-right, each-of-3, each-of-5, and-both}
+use Rattle.state.proofs.RangesLaws.{and-left, and-right, each-of-3}
 
 -- A phase is written as these bytes.
 pub record FrameSame (code count value at position : ℕ) (phase : Phase) : Type 0 where
@@ -37,8 +37,8 @@ pub frame-has : (lines code count value at position line : ℕ) → frameRight l
     → FrameHas lines code count value at position line
 unfolding frameRight bitsRight
 frame-has lines code count value at position line e =
-    let each = each-of-5 (goesWithCs lines code) (leb count (getD mostBits code 0) && ltb value (2 ^ count))
-    (restRight code at position line) (isPhase (phaseRead code count value at position)) (isLine (lineRead line)) e in
+    let each = each-of-3 (goesWithCs lines code) (leb count (getD mostBits code 0) && ltb value (2 ^ count))
+    (restRight code at position line) e in
     record {
       cs = each .0;
       most = leb-true count (getD mostBits code 0) (and-left (leb count (getD mostBits code 0)) (ltb value (2 ^ count)) (each .1));

@@ -21,13 +21,16 @@ use Rattle.frames.specs.Samples.{levels}
 use Rattle.clock.specs.declared.Counters.{Counters}
 use Rattle.chip.specs.declared.Port.{Port}
 use Rattle.chip.specs.declared.Chip.{Chip}
-use Rattle.state.specs.declared.FrameRead.{FrameRead}
-use Rattle.state.specs.declared.FrameRead.the-variants.{Framed, NoFrame}
+use Rattle.state.specs.declared.PhaseRead.the-variants.{Phased, NoPhase}
+use Rattle.state.specs.declared.LineRead.the-variants.{Does, NoLine}
 use Rattle.state.specs.declared.SettingsRead.the-variants.{Set, NoSettings}
 use Rattle.state.specs.declared.Reading.{Reading}
 use Rattle.state.specs.declared.Verdict.the-variants as verdict
-use Rattle.state.specs.Answers.{frameRead, settingsRead, malformed, readOf, writtenOver, portOver, countersOver}
-use Rattle.state.specs.Record.{frameBytes, counterBytes, upTo, maxima, mostBits, byte, valueIn, framesRight, recordValid, frameRight, settingsRight, chipOf, tailOf, recordOf}
+use Rattle.state.specs.FrameCodes.{lineRead}
+use Rattle.state.specs.Answers.{verdictNumber, settingsNumber, settingsRead, settingsIn, malformed, readOf, writtenOver, portOver, countersOver}
+use Rattle.state.specs.Record.{frameBytes, counterBytes, upTo, maxima, mostBits, byte, valueIn, framesRight, bytesFit, recordValid, settingsRight, settingsOf, phaseAt, chipOf, tailOf, recordOf}
+use Rattle.state.proofs.RangesLaws.{and-left, upTo-at}
+use Rattle.state.proofs.CodesLaws.{phase-there, line-there}
 
 -- ---- each byte at most its maximum: one that is leaves the rest to decide, one that is not decides, and none is left
 
@@ -170,22 +173,6 @@ memory-taken bytes h = rw h (append-nil (take 32 bytes))
 
 -- ---- what a reading found tells whether the bytes are right
 
-module _ (right : Bool) (phase : Phase) (line : Line) where
-  pub frame-none : cond right (Framed phase line) NoFrame ≡ NoFrame → right ≡ false
-  frame-none = by right
-    where
-      by : (t : Bool) → cond t (Framed phase line) NoFrame ≡ NoFrame → t ≡ false
-      by true e = cc
-      by false e = refl
-
-  pub frame-found : (p : Phase) (l : Line) → cond right (Framed phase line) NoFrame ≡ Framed p l
-      → (right ≡ true) × (phase ≡ p) × (line ≡ l)
-  frame-found p l = by right
-    where
-      by : (t : Bool) → cond t (Framed phase line) NoFrame ≡ Framed p l → (t ≡ true) × (phase ≡ p) × (line ≡ l)
-      by true e = (refl, cc, cc)
-      by false e = (cc, cc, cc)
-
 module _ (right : Bool) (settings : Settings) where
   pub settings-none : cond right (Set settings) NoSettings ≡ NoSettings → right ≡ false
   settings-none = by right
@@ -203,9 +190,6 @@ module _ (right : Bool) (settings : Settings) where
 
 -- ---- what reading answers, by the tests in turn
 
-abbrev frameIn : List ℕ → FrameRead
-frameIn b = frameRead (byte b 32) (byte b 33) (byte b 34) (valueIn b) (byte b 37) (byte b 38) (byte b 39)
-
 abbrev valid-reading : List ℕ → ℕ → Phase → Line → Settings → Reading
 valid-reading memory lines phase line settings =
     record {
@@ -213,36 +197,69 @@ valid-reading memory lines phase line settings =
       chip = record { port = record { memory = memory; levels = levels lines; phase = phase; line = line }; settings = settings };
     }
 
-pub read-length : (b : List ℕ) → (length b ≡ 64 → ⊥) → malformed ≡ readOf b
-unfolding readOf recordValid
-read-length b h = rw (ne-eqb _ _ h)
+module _ (b : List ℕ) (h : length b ≡ 64 → ⊥) where
+  pub read-length : malformed ≡ readOf b
+  unfolding readOf recordValid
+  read-length = rw (ne-eqb _ _ h)
+
+  pub settings-length : NoSettings ≡ settingsIn b
+  unfolding settingsIn recordValid
+  settings-length = rw (ne-eqb _ _ h)
 
 module _ (b : List ℕ) (long : length b ≡ 64) where
-  pub read-range : upTo b maxima ≡ false → malformed ≡ readOf b
+  pub read-unfit : bytesFit b ≡ false → malformed ≡ readOf b
   unfolding readOf recordValid
-  read-range e = rw (eq-eqb _ _ long, e)
+  read-unfit e = rw (eq-eqb _ _ long, e)
 
-  module _ (fits : upTo b maxima ≡ true) where
-    pub read-frame : frameIn b ≡ NoFrame → malformed ≡ readOf b
-    unfolding readOf recordValid frameRead
-    read-frame e =
-        let none : framesRight b ≡ false = frame-none _ _ _ e in
-        rw (eq-eqb _ _ long, fits, none)
+  pub settings-unfit : bytesFit b ≡ false → NoSettings ≡ settingsIn b
+  unfolding settingsIn recordValid
+  settings-unfit e = rw (eq-eqb _ _ long, e)
 
-    module _ (phase : Phase) (line : Line) (found : frameIn b ≡ Framed phase line) where
-      pub read-settings : settingsRead b ≡ NoSettings → malformed ≡ readOf b
-      unfolding readOf recordValid frameRead settingsRead
-      read-settings e =
-          let right : framesRight b ≡ true = frame-found _ _ _ phase line found .0 in
-          let none : settingsRight b ≡ false = settings-none _ _ e in
-          rw (eq-eqb _ _ long, fits, right, none)
+  module _ (fit : bytesFit b ≡ true) where
+    pub settings-whole : settingsRead b ≡ settingsIn b
+    unfolding settingsIn settingsRead recordValid
+    settings-whole = rw (eq-eqb _ _ long, fit)
 
-      pub read-whole : (settings : Settings) (memory : List ℕ) → settingsRead b ≡ Set settings → memory ≡ first32 b
-          → valid-reading memory (byte b 32) phase line settings ≡ readOf b
-      unfolding readOf recordValid frameRead settingsRead chipOf
-      read-whole settings memory e m =
-          let frame = frame-found _ _ _ phase line found in
-          let rest = settings-found _ _ settings e in
-          let right : framesRight b ≡ true = frame .0 in
-          let selected : settingsRight b ≡ true = rest .0 in
-          rw (eq-eqb _ _ long, fits, right, selected, m, memory-taken b long, ← frame .1, ← frame .2, ← rest .1)
+    within : (i : ℕ) → i < 64 → byte b i ≤ getD maxima i 0
+    within i h = upTo-at b maxima i (and-left (upTo b maxima) (framesRight b) fit) (omega (arith, long)) h
+
+    -- bytes in range have a phase and a line
+    pub read-phase : phaseAt b ≡ NoPhase → malformed ≡ readOf b
+    read-phase e = absurd (phase-there (byte b 33) _ _ _ _ (within 33 (omega arith)) e)
+
+    pub read-line : lineRead (byte b 39) ≡ NoLine → malformed ≡ readOf b
+    read-line e = absurd (line-there (byte b 39) (within 39 (omega arith)) e)
+
+    pub read-settings : settingsRead b ≡ NoSettings → malformed ≡ readOf b
+    unfolding readOf recordValid settingsRead
+    read-settings e =
+        let none : settingsRight b ≡ false = settings-none _ _ e in
+        rw (eq-eqb _ _ long, fit, none)
+
+    pub read-whole : (phase : Phase) (line : Line) (settings : Settings) (memory : List ℕ) → phaseAt b ≡ Phased phase
+        → lineRead (byte b 39) ≡ Does line → settingsRead b ≡ Set settings → memory ≡ first32 b
+        → valid-reading memory (byte b 32) phase line settings ≡ readOf b
+    unfolding readOf recordValid settingsRead chipOf
+    read-whole phase line settings memory p l e m =
+        let rest = settings-found _ _ settings e in
+        let selected : settingsRight b ≡ true = rest .0 in
+        rw (eq-eqb _ _ long, fit, selected, m, memory-taken b long, p, l, ← rest .1)
+
+-- ---- reading accepts exactly the valid records, and refuses all others with 28
+
+module _ (b : List ℕ) where
+  pub read-number : verdictNumber (readOf b .answer) ≡ cond (recordValid b) 0 28
+  unfolding readOf
+  read-number = by (recordValid b)
+    where
+      by : (t : Bool) → verdictNumber (cond t (record { answer = verdict.Valid; chip = chipOf b }) malformed .answer) ≡ cond t 0 28
+      by true = refl
+      by false = refl
+
+  pub settings-number : settingsNumber (settingsIn b) ≡ cond (recordValid b) 0 28
+  unfolding settingsIn
+  settings-number = by (recordValid b)
+    where
+      by : (t : Bool) → settingsNumber (cond t (Set (settingsOf b)) NoSettings) ≡ cond t 0 28
+      by true = refl
+      by false = refl

@@ -12,8 +12,8 @@ use lib.Seq.{drop-cons, length-take-le}
 use borrow.Author.Tests.{eqb-true}
 use Rattle.chip.specs.declared.Chip.{Chip}
 use Rattle.state.specs.Selections.{sourceRead, isSource, biasRead, isBias, commonsRead, isCommons, pitchRead, isPitch, irqSourceRead, isIrqSource}
-use Rattle.state.specs.Record.{upTo, maxima, byte, valueIn, framesRight, settingsRight, recordValid, recordOf, tailOf, chipOf}
-use Rattle.state.proofs.RangesLaws.{each-of-4, each-of-5, upTo-at, upTo-drop, upTo-zeros}
+use Rattle.state.specs.Record.{upTo, maxima, byte, valueIn, framesRight, bytesFit, settingsRight, recordValid, recordOf, tailOf, chipOf}
+use Rattle.state.proofs.RangesLaws.{and-left, and-right, each-of-3, each-of-5, upTo-at, upTo-drop, upTo-zeros}
 use Rattle.state.proofs.CodesLaws.{bit-again, lines-again, line-again, source-again, irqSource-again, bias-again, commons-again, pitch-again}
 use Rattle.state.proofs.FramesLaws.{FrameSame, frame-has, frame-same}
 
@@ -40,8 +40,13 @@ pub record RecordHas (b : List ℕ) : Type 0 where
 pub valid-has : (b : List ℕ) → recordValid b ≡ true → RecordHas b
 unfolding recordValid
 valid-has b v =
-    let each = each-of-4 (eqb (length b) 64) (upTo b maxima) (framesRight b) (settingsRight b) v in
-    record { long = eqb-true (length b) 64 (each .0); fits = each .1; frame = each .2; settings = each .3 }
+    let each = each-of-3 (eqb (length b) 64) (bytesFit b) (settingsRight b) v in
+    record {
+      long = eqb-true (length b) 64 (each .0);
+      fits = and-left (upTo b maxima) (framesRight b) (each .1);
+      frame = and-right (upTo b maxima) (framesRight b) (each .1);
+      settings = each .2;
+    }
 
 module _ (b : List ℕ) (has : RecordHas b) where
   -- each byte in its range

@@ -12,8 +12,6 @@ use Rattle.clock.specs.declared.Counters.{Counters}
 use Rattle.chip.specs.declared.Port.{Port}
 use Rattle.chip.specs.declared.Chip.{Chip}
 use Rattle.chip.specs.PowerOn.{freshChip}
-use Rattle.state.specs.declared.FrameRead.{FrameRead}
-use Rattle.state.specs.declared.FrameRead.the-variants.{Framed, NoFrame}
 use Rattle.state.specs.declared.SettingsRead.{SettingsRead}
 use Rattle.state.specs.declared.SettingsRead.the-variants.{Set, NoSettings}
 use Rattle.state.specs.declared.Reading.{Reading}
@@ -21,8 +19,7 @@ use Rattle.state.specs.declared.Verdict.{Verdict}
 use Rattle.state.specs.declared.Verdict.the-variants as verdict
 use Rattle.state.specs.declared.Written.{Written}
 use Rattle.state.specs.declared.Written.the-variants as written
-use Rattle.state.specs.FrameCodes.{phaseRead, phaseIn, lineRead, lineIn}
-use Rattle.state.specs.Record.{frameBytes, counterBytes, frameRight, settingsRight, settingsOf, recordValid, recordOf, chipOf}
+use Rattle.state.specs.Record.{frameBytes, counterBytes, settingsRight, settingsOf, recordValid, recordOf, chipOf}
 
 -- The paper's numbers: 0 for a valid record, the count for bytes written, else the refusal's.
 abbrev pub verdictNumber : Verdict → ℕ
@@ -33,14 +30,17 @@ abbrev pub writtenNumber : Written → ℕ
 writtenNumber (written.Bytes count) = count
 writtenNumber (written.Refused refusal) = refusalNumber refusal
 
--- The bytes of a frame, and those of the settings, where they are right.
-unfoldable pub frameRead : ℕ → ℕ → ℕ → ℕ → ℕ → ℕ → ℕ → FrameRead
-frameRead lines code count value at position line =
-    cond (frameRight lines code count value at position line)
-    (Framed (phaseIn (phaseRead code count value at position)) (lineIn (lineRead line))) NoFrame
-
+-- The settings' bytes, where they are right.
 unfoldable pub settingsRead : List ℕ → SettingsRead
 settingsRead b = cond (settingsRight b) (Set (settingsOf b)) NoSettings
+
+-- 28: a malformed record has no settings.
+abbrev pub settingsNumber : SettingsRead → ℕ
+settingsNumber (Set settings) = 0
+settingsNumber NoSettings = refusalNumber Malformed
+
+unfoldable pub settingsIn : List ℕ → SettingsRead
+settingsIn b = cond (recordValid b) (Set (settingsOf b)) NoSettings
 
 -- 28: a malformed record hands out a chip at power-on with an empty memory.
 abbrev pub malformed : Reading

@@ -30,10 +30,6 @@ phaseRead code count value at position =
     (cond (eqb code 6) (Phased (Command count value))
     (cond (eqb code 7) (Phased Dead) NoPhase)))))))
 
-abbrev pub isPhase : PhaseRead → Bool
-isPhase (Phased phase) = true
-isPhase NoPhase = false
-
 abbrev pub phaseIn : PhaseRead → Phase
 phaseIn (Phased phase) = phase
 phaseIn NoPhase = Idle
@@ -72,10 +68,6 @@ positionOf Dead = 0
 -- DATA, byte 39: released, low or high.
 unfoldable pub lineRead : ℕ → LineRead
 lineRead code = cond (eqb code 0) (Does Released) (cond (eqb code 1) (Does (Driven false)) (cond (eqb code 2) (Does (Driven true)) NoLine))
-
-abbrev pub isLine : LineRead → Bool
-isLine (Does line) = true
-isLine NoLine = false
 
 abbrev pub lineIn : LineRead → Line
 lineIn (Does line) = line

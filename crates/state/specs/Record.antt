@@ -20,7 +20,8 @@ use Rattle.frames.specs.Frames.{address}
 use Rattle.frames.specs.Answers.{unfinished, lineNumber}
 use Rattle.chip.specs.declared.Port.{Port}
 use Rattle.chip.specs.declared.Chip.{Chip}
-use Rattle.state.specs.FrameCodes.{linesNumber, phaseRead, isPhase, phaseIn, phaseNumber, valueOf, positionOf, lineRead, isLine, lineIn}
+use Rattle.state.specs.declared.PhaseRead.{PhaseRead}
+use Rattle.state.specs.FrameCodes.{linesNumber, phaseRead, phaseIn, phaseNumber, valueOf, positionOf, lineRead, lineIn}
 use Rattle.state.specs.Selections.{sourceRead, isSource, sourceIn, biasRead, isBias, biasIn, commonsRead, isCommons, commonsIn, pitchRead, isPitch, pitchIn, irqSourceRead, isIrqSource, irqSourceIn}
 
 -- ---- a chip as bytes
@@ -88,7 +89,6 @@ restRight code at position line = (eqb code 4 || eqb code 5) || (eqb at 0 && eqb
 unfoldable pub frameRight : ℕ → ℕ → ℕ → ℕ → ℕ → ℕ → ℕ → Bool
 frameRight lines code count value at position line =
     goesWithCs lines code && bitsRight code count value && restRight code at position line
-    && isPhase (phaseRead code count value at position) && isLine (lineRead line)
 
 -- Byte i; and the value of the unfinished bits, low byte first.
 abbrev pub byte : List ℕ → ℕ → ℕ
@@ -100,6 +100,10 @@ valueIn b = byte b 35 + 256 * byte b 36
 abbrev pub framesRight : List ℕ → Bool
 framesRight b = frameRight (byte b 32) (byte b 33) (byte b 34) (valueIn b) (byte b 37) (byte b 38) (byte b 39)
 
+-- All in range, and the frame's bytes right.
+abbrev pub bytesFit : List ℕ → Bool
+bytesFit b = upTo b maxima && framesRight b
+
 -- Each selection is one of its cases.
 unfoldable pub settingsRight : List ℕ → Bool
 settingsRight b =
@@ -107,7 +111,7 @@ settingsRight b =
     && isPitch (pitchRead (byte b 46)) && isIrqSource (irqSourceRead (byte b 50))
 
 unfoldable pub recordValid : List ℕ → Bool
-recordValid b = eqb (length b) 64 && upTo b maxima && framesRight b && settingsRight b
+recordValid b = eqb (length b) 64 && bytesFit b && settingsRight b
 
 -- ---- the chip that valid bytes say
 
@@ -139,6 +143,9 @@ settingsOf b =
     settingsWith b (sourceIn (sourceRead (byte b 41))) (biasIn (biasRead (byte b 43))) (commonsIn (commonsRead (byte b 44)))
     (pitchIn (pitchRead (byte b 46))) (irqSourceIn (irqSourceRead (byte b 50)))
 
+abbrev pub phaseAt : List ℕ → PhaseRead
+phaseAt b = phaseRead (byte b 33) (byte b 34) (valueIn b) (byte b 37) (byte b 38)
+
 unfoldable pub chipOf : List ℕ → Chip
 chipOf b =
     record {
@@ -146,7 +153,7 @@ chipOf b =
           record {
             memory = take 32 b;
             levels = levels (byte b 32);
-            phase = phaseIn (phaseRead (byte b 33) (byte b 34) (valueIn b) (byte b 37) (byte b 38));
+            phase = phaseIn (phaseAt b);
             line = lineIn (lineRead (byte b 39));
           };
       settings = settingsOf b;

@@ -9,9 +9,9 @@ ghost use Rattle.commands.specs.Numbers.{biasNumber};
 ghost use Rattle.rules.specs.Numbers.{sourceNumber, pitchNumber, irqSourceNumber};
 ghost use Rattle.state.specs.FrameCodes.{phaseRead, lineRead, phaseNumber, valueOf, positionOf, linesNumber};
 ghost use Rattle.state.specs.Selections.{sourceRead, biasRead, commonsRead, pitchRead, irqSourceRead};
-ghost use Rattle.state.specs.Answers.{frameRead, settingsRead, malformed, readOf, writtenAs, writtenOver};
+ghost use Rattle.state.specs.Answers.{settingsRead, settingsIn, malformed, readOf, writtenAs, writtenOver};
 ghost use Rattle.state.specs.Answers.{partWrittenAs, portOver, countersOver};
-ghost use Rattle.state.specs.Record.{frameBytes, counterBytes, settingsOf, upTo, maxima, mostBits, goesWithCs, bitsRight, restRight, tailOf};
+ghost use Rattle.state.specs.Record.{frameBytes, counterBytes, settingsOf, upTo, maxima, mostBits, goesWithCs, bitsRight, restRight, frameRight, bytesFit, phaseAt, tailOf};
 use chip::Chip;
 use chip::Port;
 use clock::BaseCounter;
@@ -73,12 +73,7 @@ pub enum IrqSourceRead {
     NoIrqSource,
 }
 
-// What the bytes of a frame read to, and those of the settings.
-pub enum FrameRead {
-    Framed(Phase, Line),
-    NoFrame,
-}
-
+// What the settings of a record read to.
 pub enum SettingsRead {
     Set(Settings),
     NoSettings,
@@ -345,26 +340,17 @@ fn rest_right(code: u8, at: u8, position: u8, line: u8) -> bool
     line == 0
 }
 
-// Bytes 32 to 39.
-fn frame_of(lines: u8, code: u8, count: u8, value: u16, at: u8, position: u8, line: u8) -> FrameRead
-    ensures { λ r. ⌜ r ≡ frameRead lines code count value at position line ⌝ }
+// Whether bytes 32 to 39, each in range, go together.
+fn frame_right(lines: u8, code: u8, count: u8, value: u16, at: u8, position: u8, line: u8) -> bool
+    ensures { λ r. ⌜ r ≡ frameRight lines code count value at position line ⌝ }
 {
     if !goes_with_cs(lines, code) {
-        return FrameRead::NoFrame;
+        return false;
     }
     if !bits_right(code, count, value) {
-        return FrameRead::NoFrame;
+        return false;
     }
-    if !rest_right(code, at, position, line) {
-        return FrameRead::NoFrame;
-    }
-    let PhaseRead::Phased(phase) = phase_of(code, count, value, at, position) else {
-        return FrameRead::NoFrame;
-    };
-    let LineRead::Does(driven) = line_of(line) else {
-        return FrameRead::NoFrame;
-    };
-    FrameRead::Framed(phase, driven)
+    rest_right(code, at, position, line)
 }
 
 // Bytes 51 to 56.
@@ -452,6 +438,48 @@ fn not_valid() -> Reading
     }
 }
 
+// Bytes 33 to 38.
+fn phase_in(bytes: &[u8]) -> PhaseRead
+    requires { ⌜ length (now bytes) ≡ 64 ⌝ }
+    ensures { λ r. ⌜ r ≡ phaseAt (now (bytes .entry)) ⌝ }
+{
+    let value = value_from(bytes[35], bytes[36]);
+    phase_of(bytes[33], bytes[34], value, bytes[37], bytes[38])
+}
+
+// Whether all bytes are in range, and those of the frame go together.
+fn bytes_fit(bytes: &[u8]) -> bool
+    requires { ⌜ length (now bytes) ≡ 64 ⌝ }
+    ensures { λ r. ⌜ r ≡ bytesFit (now (bytes .entry)) ⌝ }
+{
+    if !in_range(bytes) {
+        return false;
+    }
+    let value = value_from(bytes[35], bytes[36]);
+    frame_right(
+        bytes[32],
+        bytes[33],
+        bytes[34],
+        value,
+        bytes[37],
+        bytes[38],
+        bytes[39],
+    )
+}
+
+// The settings that a record says, if the record is valid: for whoever has no use for its frame.
+pub fn settings_in(bytes: &[u8]) -> SettingsRead
+    ensures { λ r. ⌜ r ≡ settingsIn (now (bytes .entry)) ⌝ }
+{
+    if bytes.len() != 64 {
+        return SettingsRead::NoSettings;
+    }
+    if !bytes_fit(bytes) {
+        return SettingsRead::NoSettings;
+    }
+    settings_of(bytes)
+}
+
 // The chip that a record says, if the record is valid.
 pub fn read(bytes: &[u8]) -> Reading
     ensures { λ r. ⌜ r ≡ readOf (now (bytes .entry)) ⌝ }
@@ -459,20 +487,14 @@ pub fn read(bytes: &[u8]) -> Reading
     if bytes.len() != 64 {
         return not_valid();
     }
-    if !in_range(bytes) {
+    if !bytes_fit(bytes) {
         return not_valid();
     }
-    let lines = bytes[32];
-    let value = value_from(bytes[35], bytes[36]);
-    let FrameRead::Framed(phase, line) = frame_of(
-        lines,
-        bytes[33],
-        bytes[34],
-        value,
-        bytes[37],
-        bytes[38],
-        bytes[39],
-    ) else {
+    let levels = frames::levels_of(bytes[32]);
+    let PhaseRead::Phased(phase) = phase_in(bytes) else {
+        return not_valid();
+    };
+    let LineRead::Does(line) = line_of(bytes[39]) else {
         return not_valid();
     };
     let SettingsRead::Set(settings) = settings_of(bytes) else {
@@ -483,7 +505,7 @@ pub fn read(bytes: &[u8]) -> Reading
         chip: Chip {
             port: Port {
                 memory: ground::first_32(bytes),
-                levels: frames::levels_of(lines),
+                levels,
                 phase,
                 line,
             },

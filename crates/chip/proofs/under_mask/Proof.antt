@@ -4,9 +4,10 @@ use mathlib.Core.List.{List, map}
 use Prim.Native.Nat.{ℕ, _+_, _-_, _≤_, _<_}
 use native.Mathlib.Omega.{arith}
 use borrow.Author.Needs.{needs}
-use lib.Bits.{bitAnd, and-zero-l}
-use lib.ListN.{length, getD, set, length-map, List·getD-map}
+use lib.Bits.{bitAnd}
+use lib.ListN.{length, getD, set, length-map}
 use lib.Seq.{paste, paste-zero}
+use Rattle.ground.proofs.BitsLaws.{masked-at}
 use Rattle.ground.proofs.WrittenLaws.{paste-next, paste-whole}
 use Rattle.chip.proofs.under_mask.Statement.{statement}
 use Rattle.chip.proofs.under_mask.Tie as tie
@@ -24,9 +25,7 @@ abbrev μ-loop : tie.MeasureT-loop
 next : (mask : ℕ) (memory cells : List ℕ) (i : ℕ) → cells ≡ paste memory 0 (masked mask memory) i → i < length memory
     → set cells i (bitAnd (getD memory i 0) mask) ≡ paste memory 0 (masked mask memory) (i + 1)
 next mask memory cells i e h =
-    let cell : getD (masked mask memory) i 0 ≡ bitAnd (getD memory i 0) mask =
-    ap (getD (masked mask memory) i) (sym (and-zero-l mask)) ∙ List·getD-map (λ n. bitAnd n mask) memory i 0 in
-    ap (set cells i) (sym cell)
+    ap (set cells i) (sym (masked-at mask memory i))
     ∙ paste-next memory (masked mask memory) cells i e h (omega (arith, length-map memory (λ n. bitAnd n mask)))
 
 whole : (mask : ℕ) (memory cells : List ℕ) (i : ℕ) → cells ≡ paste memory 0 (masked mask memory) i → length memory ≤ i

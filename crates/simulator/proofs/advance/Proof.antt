@@ -1,15 +1,17 @@
 -- `simulator::advance` meets its contract: a malformed record is left, of any other the counters are written. Assumes nothing.
-use mathlib.Core.Path.{_∙_, sym}
 use Rattle.simulator.proofs.SimulatorLaws.{advance-malformed, advance-done}
 use borrow.Author.Needs.{needs}
 use Rattle.simulator.proofs.advance.Statement.{statement}
 use Rattle.simulator.proofs.advance.Tie as tie
 
-read-requires : tie.Need-read-requires
-read-requires c κs = search needs
+settings-in-requires : tie.Need-settings-in-requires
+settings-in-requires c κs = search needs
 
-refused-by-requires : tie.Need-refused-by-requires
-refused-by-requires c κs = search needs
+enum-known-settings : tie.Need-enum-known-settings
+enum-known-settings c = search needs
+
+enum-told : tie.Need-enum-told
+enum-told c = search needs
 
 same-length : tie.Need-same-length
 same-length c = search needs
@@ -18,12 +20,10 @@ returns : tie.Need-returns
 returns c =
     let read = c .before .before in
     let start = read .before .before .before in
-    let done = advance-malformed (start .args .bytes .now) (read .read .result) (read .read .ensures) (start .args .n)
-    (λ y. c .if1 .taken (c .before .refused-by .ensures ∙ y)) in
-    (c .before .refused-by .ensures ∙ done .0, done .1)
+    advance-malformed (start .args .bytes .now) (read .settings-in .result) (read .settings-in .ensures) (start .args .n) (c .enum-told .given .1)
 
-advance-requires : tie.Need-advance-requires
-advance-requires c κs = search needs
+advanced-requires : tie.Need-advanced-requires
+advanced-requires c κs = search needs
 
 write-counters-requires : tie.Need-write-counters-requires
 write-counters-requires c κs = search needs
@@ -34,22 +34,23 @@ same-length-2 c = search needs
 returns-2 : tie.Need-returns-2
 returns-2 c =
     let written = c .before .before in
-    let ticked = written .before .before .before .before in
-    let tested = ticked .before .before in
-    let read = tested .before .before in
+    let ticked = written .before .before .before in
+    let told = ticked .before .before in
+    let read = told .before .before in
     let start = read .before .before .before in
-    advance-done (start .args .bytes .now) (read .read .result) (read .read .ensures) (start .args .n) (ticked .advance .result) _
-    (sym (tested .before .refused-by .ensures) ∙ tested .if1 .left) (ticked .advance .ensures) (written .write-counters .ensures .1)
+    advance-done (start .args .bytes .now) (read .settings-in .result) (read .settings-in .ensures) (start .args .n) _ (ticked .advanced .result) _
+    (told .settings .given .1) (ticked .advanced .ensures) (written .write-counters .ensures .1)
 
 pub advance-spec : {M : Type 1} → statement M
 advance-spec =
     tie.close
     (tie.spec
-    read-requires
-    refused-by-requires
+    settings-in-requires
+    enum-known-settings
+    enum-told
     same-length
     returns
-    advance-requires
+    advanced-requires
     write-counters-requires
     same-length-2
     returns-2)

@@ -1,5 +1,4 @@
 -- `simulator::step` meets its contract: each refusal leaves early, and what is left is written. Assumes nothing.
-use mathlib.Core.Path.{_∙_, sym}
 use Rattle.simulator.proofs.SimulatorLaws.{step-malformed, step-above, step-obeyed, step-kept}
 use borrow.Author.Needs.{needs}
 use Rattle.simulator.proofs.step.Statement.{statement}
@@ -8,8 +7,11 @@ use Rattle.simulator.proofs.step.Tie as tie
 read-requires : tie.Need-read-requires
 read-requires c κs = search needs
 
-refused-by-requires : tie.Need-refused-by-requires
-refused-by-requires c κs = search needs
+enum-told : tie.Need-enum-told
+enum-told c = search needs
+
+enum-told-2 : tie.Need-enum-told-2
+enum-told-2 c = search needs
 
 same-length : tie.Need-same-length
 same-length c = search needs
@@ -18,20 +20,17 @@ returns : tie.Need-returns
 returns c =
     let read = c .before .before in
     let start = read .before .before .before in
-    let done = step-malformed (start .args .bytes .now) (read .read .result) (read .read .ensures) (start .args .sample)
-    (λ y. c .if1 .taken (c .before .refused-by .ensures ∙ y)) in
-    (c .before .refused-by .ensures ∙ done .0, done .1)
+    step-malformed (start .args .bytes .now) (read .read .result) (read .read .ensures) (start .args .sample) _ (c .enum-told2 .given .1)
 
 same-length-2 : tie.Need-same-length-2
 same-length-2 c = search needs
 
 returns-2 : tie.Need-returns-2
 returns-2 c =
-    let tested = c .before in
-    let read = tested .before .before in
+    let told = c .before in
+    let read = told .before .before in
     let start = read .before .before .before in
-    step-above (start .args .bytes .now) (read .read .result) (read .read .ensures) (start .args .sample)
-    (sym (tested .before .refused-by .ensures) ∙ tested .if1 .left) (c .if2 .taken)
+    step-above (start .args .bytes .now) (read .read .result) (read .read .ensures) (start .args .sample) (told .enum-told .given .1) (c .if1 .taken)
 
 via-place-requires : tie.Need-via-place-requires
 via-place-requires c κs = search needs
@@ -47,12 +46,11 @@ returns-3 c =
     let written = c .before .before in
     let taken = written .before .before .before .before .before in
     let low = taken .before .before in
-    let tested = low .before in
-    let read = tested .before .before in
+    let told = low .before in
+    let read = told .before .before in
     let start = read .before .before .before in
-    step-obeyed (start .args .bytes .now) (read .read .result) (read .read .ensures) (start .args .sample) (taken .via-place .result) _
-    (sym (tested .before .refused-by .ensures) ∙ tested .if1 .left) (low .if2 .left) (taken .via-place .ensures)
-    (written .write .ensures .1)
+    step-obeyed (start .args .bytes .now) (read .read .result) (read .read .ensures) (start .args .sample) (told .enum-told .given .1) (taken .via-place .result) _
+    (low .if1 .left) (taken .via-place .ensures) (written .write .ensures .1)
 
 write-port-requires : tie.Need-write-port-requires
 write-port-requires c κs = search needs
@@ -66,19 +64,19 @@ returns-4 c =
     let kept = written .before .before .before in
     let taken = kept .before .before .before in
     let low = taken .before .before in
-    let tested = low .before in
-    let read = tested .before .before in
+    let told = low .before in
+    let read = told .before .before in
     let start = read .before .before .before in
-    step-kept (start .args .bytes .now) (read .read .result) (read .read .ensures) (start .args .sample) (taken .via-place .result) _
-    (sym (tested .before .refused-by .ensures) ∙ tested .if1 .left) (low .if2 .left) (taken .via-place .ensures)
-    (kept .if3 .left) (written .write-port .ensures .1)
+    step-kept (start .args .bytes .now) (read .read .result) (read .read .ensures) (start .args .sample) (told .enum-told .given .1) (taken .via-place .result) _
+    (low .if1 .left) (taken .via-place .ensures) (kept .if2 .left) (written .write-port .ensures .1)
 
 pub step-spec : {M : Type 1} → statement M
 step-spec =
     tie.close
     (tie.spec
     read-requires
-    refused-by-requires
+    enum-told
+    enum-told-2
     same-length
     returns
     same-length-2
