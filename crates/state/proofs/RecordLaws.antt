@@ -5,13 +5,13 @@ use mathlib.Core.Bool.{Bool, true, false, cond, _&&_}
 use mathlib.Core.List.{List, [], _∷_, _++_, append-nil, append-assoc}
 use Prim.Native.Nat.{ℕ, zero, suc, _+_, _*_, _/_, _^_, _≤_, _<_, min}
 use native.Mathlib.Omega.{arith}
-use native.Mathlib.Nat.{div-eq-of-lt, div-lt-iff-lt-mul, zero-add, one-mul}
+use native.Mathlib.Nat.{div-eq-of-lt, div-lt-iff-lt-mul, one-mul}
 use native.Mathlib.Numerals.{add-one}
 use lib.Dec.{ltb, leb, eqb}
 use lib.ListN.{length, take, drop, getD, replicate, getD-replicate, length-append, drop-of-length-le}
 use lib.Pow.{pow-pos}
 use lib.Seq.{paste, length-paste, sets, sets-eq, drop-cons}
-use borrow.Author.Tests.{ltb-true, ltb-false, lt-ltb, le-ltb, le-leb, lt-leb, eq-eqb, ne-eqb}
+use borrow.Author.Tests.{ltb-true, ltb-false, le-leb, lt-leb, eq-eqb, ne-eqb}
 use Rattle.ground.specs.Bits.{bitNumber}
 use Rattle.ground.specs.Written.{over, first32}
 use Rattle.ground.proofs.WrittenLaws.{over-paste, length-over, over-over}
@@ -26,7 +26,7 @@ use Rattle.state.specs.declared.SettingsRead.the-variants.{Set, NoSettin
 use Rattle.state.specs.declared.Reading.{Reading}
 use Rattle.state.specs.declared.Verdict.the-variants as verdict
 use Rattle.state.specs.Answers.{frameRead, settingsRead, malformed, readOf}
-use Rattle.state.specs.Record.{frameBytes, counterBytes, settingsBytes, upTo, maxima, mostBits, byte, valueIn, framesRight, recordValid, frameRight, settingsRight, chipOf, tailOf, recordOf}
+use Rattle.state.specs.Record.{frameBytes, counterBytes, settingsBytes, upTo, maxima, mostBits, byte, valueIn, framesRight, recordValid, settingsRight, chipOf, tailOf, recordOf}
 
 -- ---- each byte at most its maximum: one that is leaves the rest to decide, one that is not decides, and none is left
 
