@@ -2,33 +2,32 @@
 -- reading found. Assumes nothing.
 use mathlib.Core.Path.{_≡_, _∙_, refl, sym, ap}
 use mathlib.Core.Bool.{Bool, true, false, cond, _&&_}
-use mathlib.Core.List.{List, [], _∷_, _++_, append-nil}
+use mathlib.Core.List.{List, [], _∷_, _++_, append-nil, append-assoc}
 use Prim.Native.Nat.{ℕ, zero, suc, _+_, _*_, _/_, _^_, _≤_, _<_, min}
 use native.Mathlib.Omega.{arith}
-use native.Mathlib.Nat.{div-eq-of-lt, div-lt-iff-lt-mul, zero-add, one-mul}
+use native.Mathlib.Nat.{div-eq-of-lt, div-lt-iff-lt-mul, one-mul}
 use native.Mathlib.Numerals.{add-one}
 use lib.Dec.{ltb, leb, eqb}
-use lib.ListN.{length, take, drop, getD, set, replicate, getD-replicate, length-append, drop-of-length-le}
+use lib.ListN.{length, take, drop, getD, replicate, getD-replicate, length-append, drop-of-length-le}
 use lib.Pow.{pow-pos}
-use lib.Seq.{paste, paste-suc, length-paste, drop-cons}
-use borrow.Author.Tests.{ltb-true, ltb-false, lt-ltb, le-ltb, le-leb, lt-leb, eq-eqb, ne-eqb}
+use lib.Seq.{paste, length-paste, sets, sets-eq, drop-cons}
+use borrow.Author.Tests.{ltb-true, ltb-false, le-leb, lt-leb, eq-eqb, ne-eqb}
+use Rattle.ground.specs.Bits.{bitNumber}
 use Rattle.ground.specs.Written.{over, first32}
-use Rattle.ground.proofs.WrittenLaws.{over-paste, over-over}
+use Rattle.ground.proofs.WrittenLaws.{over-paste, length-over, over-over}
 use Rattle.rules.specs.declared.Settings.{Settings}
 use Rattle.frames.specs.declared.Phase.{Phase}
 use Rattle.frames.specs.declared.Line.{Line}
 use Rattle.frames.specs.Samples.{levels}
-use Rattle.clock.specs.declared.Counters.{Counters}
 use Rattle.chip.specs.declared.Port.{Port}
-use Rattle.chip.specs.declared.Chip.{Chip}
 use Rattle.state.specs.declared.PhaseRead.the-variants.{Phased, NoPhase}
 use Rattle.state.specs.declared.LineRead.the-variants.{Does, NoLine}
 use Rattle.state.specs.declared.SettingsRead.the-variants.{Set, NoSettings}
 use Rattle.state.specs.declared.Reading.{Reading}
 use Rattle.state.specs.declared.Verdict.the-variants as verdict
 use Rattle.state.specs.FrameCodes.{lineRead}
-use Rattle.state.specs.Answers.{verdictNumber, settingsNumber, settingsRead, settingsIn, malformed, readOf, writtenOver, portOver, countersOver}
-use Rattle.state.specs.Record.{frameBytes, counterBytes, upTo, maxima, mostBits, byte, valueIn, framesRight, bytesFit, recordValid, settingsRight, settingsOf, phaseAt, chipOf, tailOf, recordOf}
+use Rattle.state.specs.Answers.{verdictNumber, settingsNumber, settingsRead, settingsIn, malformed, readOf}
+use Rattle.state.specs.Record.{frameBytes, counterBytes, settingsBytes, upTo, maxima, mostBits, byte, valueIn, framesRight, bytesFit, recordValid, settingsRight, settingsOf, phaseAt, chipOf, tailOf, recordOf}
 use Rattle.state.proofs.RangesLaws.{and-left, upTo-at}
 use Rattle.state.proofs.CodesLaws.{phase-there, line-there}
 
@@ -122,49 +121,53 @@ below-power value count = by (ltb value (2 ^ count)) refl
         let no : ⊥ = omega (arith, ltb-false value (2 ^ count) e, one-mul (2 ^ count)) in
         absurd no)
 
--- ---- a block put over a buffer: one byte more, the length, the whole of it, and one after another
+-- ---- bytes put over a buffer one by one: the length, and the whole of it
 
 module _ (buffer block now : List ℕ) (at i : ℕ) (e : now ≡ paste buffer at block i) where
-  pub put-next : at + i < length buffer → i < length block → set now (at + i) (getD block i 0) ≡ paste buffer at block (i + 1)
-  put-next room more = rw (e, add-one i) (paste-suc buffer at block i 0 room more)
-
   pub put-length : at + i ≤ length buffer → i ≤ length block → length now ≡ length buffer
   put-length room more = ap length e ∙ length-paste buffer at block i room more
 
   pub put-whole : i ≡ length block → now ≡ over buffer at block
   put-whole whole = e ∙ ap (paste buffer at block) whole ∙ over-paste buffer block at
 
-pub put-after : (buffer first second : List ℕ) → length first ≡ 32 → length second ≤ 32 → 64 ≤ length buffer
-    → over (over buffer 0 first) 32 second ≡ over buffer 0 (first ++ second)
-put-after buffer first second h k room =
-    ap (λ (n : ℕ). over (over buffer 0 first) n second) (sym h ∙ sym (zero-add (length first)))
-    ∙ over-over buffer first second 0 (omega arith)
+-- ---- the parts of a record put one after another
 
--- the memory and the tail after it are the record
-pub put-record : (chip : Chip) (buffer tail between after : List ℕ)
-    → length (chip .port .memory) ≡ 32 → length tail ≡ 32 → 64 ≤ length buffer
-    → tail ≡ tailOf chip → between ≡ over buffer 0 (chip .port .memory) → after ≡ over between 32 tail
-    → after ≡ writtenOver chip buffer
-unfolding writtenOver recordOf
-put-record chip buffer tail between after h k room t e f =
-    rw (le-ltb (length buffer) 64 room)
-    (f ∙ ap (λ (l : List ℕ). over l 32 tail) e ∙ put-after buffer (chip .port .memory) tail h (omega arith) room
-    ∙ ap (λ (l : List ℕ). over buffer 0 (chip .port .memory ++ l)) t)
+put-after : (buffer first second : List ℕ) (from : ℕ) → from ≡ 0 + length first → from + length second ≤ length buffer
+    → over (over buffer 0 first) from second ≡ over buffer 0 (first ++ second)
+put-after buffer first second from e room =
+    ap (λ (n : ℕ). over (over buffer 0 first) n second) e ∙ over-over buffer first second 0 (omega arith)
 
--- the memory and the frame after it are the port's part, and the counters are a part alone
-pub put-port : (port : Port) (buffer frame between after : List ℕ) → length (port .memory) ≡ 32 → 64 ≤ length buffer
-    → frame ≡ frameBytes port → between ≡ over buffer 0 (port .memory) → after ≡ over between 32 frame
-    → after ≡ portOver port buffer
-unfolding portOver
-put-port port buffer frame between after h room t e f =
-    rw (le-ltb (length buffer) 64 room)
-    (f ∙ ap (λ (l : List ℕ). over l 32 frame) e ∙ ap (over (over buffer 0 (port .memory)) 32) t
-    ∙ put-after buffer (port .memory) (frameBytes port) h (omega arith) room)
+-- the memory and the frame after it are the port's part, and with the settings after them a record
+module _ (port : Port) (buffer begun half : List ℕ) (size : length (port .memory) ≡ 32) (room : 64 ≤ length buffer)
+    (e : begun ≡ over buffer 0 (port .memory)) (f : half ≡ over begun 32 (frameBytes port)) where
+  pub put-port : half ≡ over buffer 0 (port .memory ++ frameBytes port)
+  put-port =
+      f ∙ ap (λ (l : List ℕ). over l 32 (frameBytes port)) e
+      ∙ put-after buffer (port .memory) (frameBytes port) 32 (omega arith) (omega arith)
 
-pub put-counters : (counters : Counters) (buffer block after : List ℕ) → 64 ≤ length buffer
-    → block ≡ counterBytes counters → after ≡ over buffer 51 block → after ≡ countersOver counters buffer
-unfolding countersOver
-put-counters counters buffer block after room t e = rw (le-ltb (length buffer) 64 room) (e ∙ ap (over buffer 51) t)
+  pub put-record : (s : Settings) (whole : List ℕ) → whole ≡ over half 40 (settingsBytes s ++ replicate 6 0)
+      → whole ≡ over buffer 0 (recordOf (record { port = port; settings = s }))
+  unfolding recordOf tailOf
+  put-record s whole g =
+      let rest : List ℕ = settingsBytes s ++ replicate 6 0 in
+      g ∙ ap (λ (l : List ℕ). over l 40 rest) put-port
+      ∙ put-after buffer (port .memory ++ frameBytes port) rest 40 (omega (arith, length-append (port .memory) (frameBytes port)))
+      (omega arith)
+      ∙ ap (over buffer 0) (append-assoc (port .memory) (frameBytes port) rest)
+
+-- the settings: stores, the counters after them, and stores again
+pub put-settings : (s : Settings) (buffer between : List ℕ) → 64 ≤ length buffer
+    → between ≡ over (sets buffer 40 (take 11 (settingsBytes s))) 51 (counterBytes (s .counters))
+    → sets between 57 (bitNumber (s .test) ∷ replicate 6 0) ≡ over buffer 40 (settingsBytes s ++ replicate 6 0)
+put-settings s buffer between room e =
+    let first : List ℕ = take 17 (settingsBytes s) in
+    let last : List ℕ = bitNumber (s .test) ∷ replicate 6 0 in
+    let written : between ≡ over buffer 40 first =
+    e ∙ ap (λ (l : List ℕ). over l 51 (counterBytes (s .counters))) (sets-eq (take 11 (settingsBytes s)) buffer 40 (omega arith))
+    ∙ over-over buffer (take 11 (settingsBytes s)) (counterBytes (s .counters)) 40 (omega arith) in
+    ap (λ (l : List ℕ). sets l 57 last) written
+    ∙ sets-eq last (over buffer 40 first) 57 (omega (arith, length-over buffer first 40 (omega arith)))
+    ∙ over-over buffer first last 40 (omega arith)
 
 -- ---- the memory of a record is its first 32 bytes
 

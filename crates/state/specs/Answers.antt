@@ -49,18 +49,15 @@ malformed = record { answer = verdict.Refused Malformed; chip = freshChip (repli
 unfoldable pub readOf : List ℕ → Reading
 readOf b = cond (recordValid b) (record { answer = verdict.Valid; chip = chipOf b }) malformed
 
--- 25 where the buffer is shorter than a record; else the 64 bytes over its start.
-unfoldable pub writtenAs : List ℕ → Written
-writtenAs buffer = cond (ltb (length buffer) 64) (written.Refused OutputShort) (written.Bytes 64)
+-- 25 where the buffer is shorter than a record; else the count of the bytes written.
+unfoldable pub writtenAs : ℕ → List ℕ → Written
+writtenAs count buffer = cond (ltb (length buffer) 64) (written.Refused OutputShort) (written.Bytes count)
 
+-- A record over the start of a buffer that has room for it.
 unfoldable pub writtenOver : Chip → List ℕ → List ℕ
 writtenOver chip buffer = cond (ltb (length buffer) 64) buffer (over buffer 0 (recordOf chip))
 
--- A part of a record over a buffer that holds one, refused alike: the port's 40 bytes over its start, and the counters' 6
--- from byte 51 on.
-unfoldable pub partWrittenAs : ℕ → List ℕ → Written
-partWrittenAs count buffer = cond (ltb (length buffer) 64) (written.Refused OutputShort) (written.Bytes count)
-
+-- A part of a record over a buffer that holds one: the port's 40 bytes over its start, and the counters' 6 from byte 51 on.
 unfoldable pub portOver : Port → List ℕ → List ℕ
 portOver port buffer = cond (ltb (length buffer) 64) buffer (over buffer 0 (port .memory ++ frameBytes port))
 

@@ -33,22 +33,20 @@ frameBytes port =
     ∷ valueOf (port .phase) % 256 ∷ valueOf (port .phase) / 256
     ∷ address (port .phase) ∷ positionOf (port .phase) ∷ lineNumber (port .line) ∷ []
 
--- Bytes 40 to 57.
-abbrev pub settingsBytes : Settings → List ℕ
-settingsBytes s =
-    bitNumber (s .system .on) ∷ sourceNumber (s .system .source)
-    ∷ bitNumber (s .lcd .on) ∷ biasNumber (s .lcd .bias) ∷ commonsNumber (s .lcd .commons)
-    ∷ bitNumber (s .tone .on) ∷ pitchNumber (s .tone .pitch)
-    ∷ bitNumber (s .irq .on) ∷ s .base .rate ∷ bitNumber (s .base .on) ∷ irqSourceNumber (s .irq .source)
-    ∷ bitNumber (s .counters .timer .watchdog .flag) ∷ s .counters .prescaler .count ∷ s .counters .toner .count
-    ∷ s .counters .timer .divider .count ∷ s .counters .timer .base .count ∷ s .counters .timer .watchdog .count
-    ∷ bitNumber (s .test) ∷ []
-
--- Of these, bytes 51 to 56.
+-- Bytes 51 to 56.
 abbrev pub counterBytes : Counters → List ℕ
 counterBytes c =
     bitNumber (c .timer .watchdog .flag) ∷ c .prescaler .count ∷ c .toner .count
     ∷ c .timer .divider .count ∷ c .timer .base .count ∷ c .timer .watchdog .count ∷ []
+
+-- Bytes 40 to 57, the counters among them.
+abbrev pub settingsBytes : Settings → List ℕ
+settingsBytes s =
+    (bitNumber (s .system .on) ∷ sourceNumber (s .system .source)
+    ∷ bitNumber (s .lcd .on) ∷ biasNumber (s .lcd .bias) ∷ commonsNumber (s .lcd .commons)
+    ∷ bitNumber (s .tone .on) ∷ pitchNumber (s .tone .pitch)
+    ∷ bitNumber (s .irq .on) ∷ s .base .rate ∷ bitNumber (s .base .on) ∷ irqSourceNumber (s .irq .source) ∷ [])
+    ++ counterBytes (s .counters) ++ (bitNumber (s .test) ∷ [])
 
 -- All after the memory, zeros last.
 unfoldable pub tailOf : Chip → List ℕ

@@ -1,6 +1,7 @@
 // The state record: a chip as 64 bytes, read and written. A record is read only if it is valid, and then what is written
 // again is the same bytes. Assumes nothing.
 ghost use mathlib.Core.Path.{_≡_};
+ghost use mathlib.Core.List.{_++_};
 ghost use Prim.Native.Nat.{_+_, _*_, _/_, _%_, _≤_};
 ghost use lib.Dec.{eqb};
 ghost use lib.ListN.{length, getD, replicate};
@@ -9,9 +10,9 @@ ghost use Rattle.commands.specs.Numbers.{biasNumber};
 ghost use Rattle.rules.specs.Numbers.{sourceNumber, pitchNumber, irqSourceNumber};
 ghost use Rattle.state.specs.FrameCodes.{phaseRead, lineRead, phaseNumber, valueOf, positionOf, linesNumber};
 ghost use Rattle.state.specs.Selections.{sourceRead, biasRead, commonsRead, pitchRead, irqSourceRead};
-ghost use Rattle.state.specs.Answers.{settingsRead, settingsIn, malformed, readOf, writtenAs, writtenOver};
-ghost use Rattle.state.specs.Answers.{partWrittenAs, portOver, countersOver};
-ghost use Rattle.state.specs.Record.{frameBytes, counterBytes, settingsOf, upTo, maxima, mostBits, goesWithCs, bitsRight, restRight, frameRight, bytesFit, phaseAt, tailOf};
+ghost use Rattle.state.specs.Answers.{settingsRead, settingsIn, malformed, readOf};
+ghost use Rattle.state.specs.Answers.{writtenAs, writtenOver, portOver, countersOver};
+ghost use Rattle.state.specs.Record.{frameBytes, counterBytes, settingsBytes, settingsOf, upTo, maxima, mostBits, goesWithCs, bitsRight, restRight, frameRight, bytesFit, phaseAt};
 use chip::Chip;
 use chip::Port;
 use clock::BaseCounter;
@@ -611,15 +612,55 @@ fn irq_source_number(source: IrqSource) -> u8
     }
 }
 
-// All bytes after the memory.
-fn tail_of(chip: Chip) -> [u8; 32]
-    ensures { λ r. ⌜ r ≡ tailOf chip ⌝ }
+// Bytes 0 to 31. That they are 32 is said for the callers' proofs.
+fn put_memory(memory: [u8; 32], out: &mut [u8])
+    requires { ⌜ 64 ≤ length (now out) ⌝ }
+    ensures { λ _. ⌜ (length memory ≡ 32) × (now (out .exit) ≡ over (now (out .entry)) 0 memory) ⌝ }
 {
-    let port = chip.port;
+    let mut i: usize = 0;
+    while i < 32 {
+        out[i] = memory[i];
+        i += 1;
+    }
+}
+
+// Bytes 32 to 39, each stored alone: so the next reading loads what was stored, byte by byte.
+fn put_frame(port: Port, out: &mut [u8])
+    requires { ⌜ 64 ≤ length (now out) ⌝ }
+    ensures { λ _. ⌜ now (out .exit) ≡ over (now (out .entry)) 32 (frameBytes port) ⌝ }
+{
     let levels = port.levels;
     let phase = port.phase;
     let line = port.line;
-    let settings = chip.settings;
+    let value = value_of(phase);
+    out[32] = lines_number(levels);
+    out[33] = phase_number(phase);
+    out[34] = phase.unfinished();
+    out[35] = (value % 256) as u8;
+    out[36] = (value / 256) as u8;
+    out[37] = phase.address();
+    out[38] = position_of(phase);
+    out[39] = line.number();
+}
+
+// Bytes 51 to 56.
+fn put_counters(counters: Counters, out: &mut [u8])
+    requires { ⌜ 64 ≤ length (now out) ⌝ }
+    ensures { λ _. ⌜ now (out .exit) ≡ over (now (out .entry)) 51 (counterBytes counters) ⌝ }
+{
+    out[51] = counters.timer.watchdog.flag as u8;
+    out[52] = counters.prescaler.count;
+    out[53] = counters.toner.count;
+    out[54] = counters.timer.divider.count;
+    out[55] = counters.timer.base.count;
+    out[56] = counters.timer.watchdog.count;
+}
+
+// Bytes 40 to 63, the counters among them and zeros last.
+fn put_settings(settings: Settings, out: &mut [u8])
+    requires { ⌜ 64 ≤ length (now out) ⌝ }
+    ensures { λ _. ⌜ now (out .exit) ≡ over (now (out .entry)) 40 (settingsBytes settings ++ replicate 6 0) ⌝ }
+{
     let system = settings.system;
     let source = system.source;
     let lcd = settings.lcd;
@@ -629,139 +670,64 @@ fn tail_of(chip: Chip) -> [u8; 32]
     let pitch = tone.pitch;
     let irq = settings.irq;
     let irq_source = irq.source;
-    let value = value_of(phase);
-    [
-        lines_number(levels),
-        phase_number(phase),
-        phase.unfinished(),
-        (value % 256) as u8,
-        (value / 256) as u8,
-        phase.address(),
-        position_of(phase),
-        line.number(),
-        system.on as u8,
-        source_number(source),
-        lcd.on as u8,
-        bias_number(bias),
-        commons.number(),
-        tone.on as u8,
-        pitch_number(pitch),
-        irq.on as u8,
-        settings.base.rate,
-        settings.base.on as u8,
-        irq_source_number(irq_source),
-        settings.counters.timer.watchdog.flag as u8,
-        settings.counters.prescaler.count,
-        settings.counters.toner.count,
-        settings.counters.timer.divider.count,
-        settings.counters.timer.base.count,
-        settings.counters.timer.watchdog.count,
-        settings.test as u8,
-        0,
-        0,
-        0,
-        0,
-        0,
-        0,
-    ]
-}
-
-// 32 bytes over a buffer from a place on. That they are 32 is said for the caller's proof.
-fn put_32(block: [u8; 32], at: usize, out: &mut [u8])
-    requires { ⌜ at + 32 ≤ length (now out) ⌝ }
-    ensures { λ _. ⌜ (length block ≡ 32) × (now (out .exit) ≡ over (now (out .entry)) at block) ⌝ }
-{
-    let mut i: usize = 0;
-    while i < 32 {
-        out[at + i] = block[i];
-        i += 1;
-    }
-}
-
-// Bytes over a buffer from a place on.
-fn put(block: &[u8], at: usize, out: &mut [u8])
-    requires { ⌜ at + length (now block) ≤ length (now out) ⌝ }
-    ensures { λ _. ⌜ now (out .exit) ≡ over (now (out .entry)) at (now (block .entry)) ⌝ }
-{
-    let mut i: usize = 0;
-    while i < block.len() {
-        out[at + i] = block[i];
-        i += 1;
-    }
+    let counters = settings.counters;
+    out[40] = system.on as u8;
+    out[41] = source_number(source);
+    out[42] = lcd.on as u8;
+    out[43] = bias_number(bias);
+    out[44] = commons.number();
+    out[45] = tone.on as u8;
+    out[46] = pitch_number(pitch);
+    out[47] = irq.on as u8;
+    out[48] = settings.base.rate;
+    out[49] = settings.base.on as u8;
+    out[50] = irq_source_number(irq_source);
+    put_counters(counters, out);
+    out[57] = settings.test as u8;
+    out[58] = 0;
+    out[59] = 0;
+    out[60] = 0;
+    out[61] = 0;
+    out[62] = 0;
+    out[63] = 0;
 }
 
 // The chip's 64 bytes over the start of a buffer.
 pub fn write(chip: Chip, out: &mut [u8]) -> Written
-    ensures { λ r. ⌜ (r ≡ writtenAs (now (out .entry))) × (now (out .exit) ≡ writtenOver chip (now (out .entry))) ⌝ }
+    ensures { λ r. ⌜ (r ≡ writtenAs 64 (now (out .entry))) × (now (out .exit) ≡ writtenOver chip (now (out .entry))) ⌝ }
 {
     if out.len() < 64 {
         return Written::Refused(Refusal::OutputShort);
     }
     let port = chip.port;
     let memory = port.memory;
-    let tail = tail_of(chip);
-    put_32(memory, 0, out);
-    put_32(tail, 32, out);
+    let settings = chip.settings;
+    put_memory(memory, out);
+    put_frame(port, out);
+    put_settings(settings, out);
     Written::Bytes(64)
-}
-
-// Bytes 32 to 39.
-fn frame_bytes(port: Port) -> [u8; 8]
-    ensures { λ r. ⌜ r ≡ frameBytes port ⌝ }
-{
-    let levels = port.levels;
-    let phase = port.phase;
-    let line = port.line;
-    let value = value_of(phase);
-    [
-        lines_number(levels),
-        phase_number(phase),
-        phase.unfinished(),
-        (value % 256) as u8,
-        (value / 256) as u8,
-        phase.address(),
-        position_of(phase),
-        line.number(),
-    ]
 }
 
 // Of a record that a buffer holds, the port's bytes alone, 0 to 39: for a chip whose settings are as they were.
 pub fn write_port(port: Port, out: &mut [u8]) -> Written
-    ensures { λ r. ⌜ (r ≡ partWrittenAs 40 (now (out .entry))) × (now (out .exit) ≡ portOver port (now (out .entry))) ⌝ }
+    ensures { λ r. ⌜ (r ≡ writtenAs 40 (now (out .entry))) × (now (out .exit) ≡ portOver port (now (out .entry))) ⌝ }
 {
     if out.len() < 64 {
         return Written::Refused(Refusal::OutputShort);
     }
     let memory = port.memory;
-    let frame = frame_bytes(port);
-    put_32(memory, 0, out);
-    put(&frame, 32, out);
+    put_memory(memory, out);
+    put_frame(port, out);
     Written::Bytes(40)
-}
-
-// Bytes 51 to 56.
-fn counter_bytes(counters: Counters) -> [u8; 6]
-    ensures { λ r. ⌜ r ≡ counterBytes counters ⌝ }
-{
-    [
-        counters.timer.watchdog.flag as u8,
-        counters.prescaler.count,
-        counters.toner.count,
-        counters.timer.divider.count,
-        counters.timer.base.count,
-        counters.timer.watchdog.count,
-    ]
 }
 
 // Of a record that a buffer holds, the counters' bytes alone, 51 to 56: for a chip of which nothing else has changed.
 pub fn write_counters(counters: Counters, out: &mut [u8]) -> Written
-    ensures { λ r. ⌜ (r ≡ partWrittenAs 6 (now (out .entry)))
-        × (now (out .exit) ≡ countersOver counters (now (out .entry))) ⌝ }
+    ensures { λ r. ⌜ (r ≡ writtenAs 6 (now (out .entry))) × (now (out .exit) ≡ countersOver counters (now (out .entry))) ⌝ }
 {
     if out.len() < 64 {
         return Written::Refused(Refusal::OutputShort);
     }
-    let block = counter_bytes(counters);
-    put(&block, 51, out);
+    put_counters(counters, out);
     Written::Bytes(6)
 }

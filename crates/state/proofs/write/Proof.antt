@@ -1,5 +1,4 @@
--- `state::write` meets its contract: the memory, and the tail after it. Assumes nothing.
-use native.Mathlib.Omega.{arith}
+-- `state::write` meets its contract: the memory, the frame after it, and the settings after both. Assumes nothing.
 use borrow.Author.Tests.{lt-ltb, le-ltb}
 use Rattle.state.specs.Answers.{writtenAs, writtenOver}
 use Rattle.state.proofs.RecordLaws.{put-record}
@@ -11,33 +10,39 @@ returns : tie.Need-returns
 unfolding writtenAs writtenOver
 returns c = (simp (lt-ltb _ _ (c .if1 .taken)), simp (lt-ltb _ _ (c .if1 .taken)))
 
-tail-of-requires : tie.Need-tail-of-requires
-tail-of-requires c κs = search needs
+put-memory-requires : tie.Need-put-memory-requires
+put-memory-requires c κs = search needs
 
-put-32-requires : tie.Need-put-32-requires
-put-32-requires c κs = search needs
+put-frame-requires : tie.Need-put-frame-requires
+put-frame-requires c κs = search needs
 
-put-32-requires-2 : tie.Need-put-32-requires-2
-put-32-requires-2 c κs = search needs
+put-settings-requires : tie.Need-put-settings-requires
+put-settings-requires c κs = search needs
 
 same-length : tie.Need-same-length
 same-length c = search needs
 
 returns-2 : tie.Need-returns-2
-unfolding writtenAs
+unfolding writtenAs writtenOver
 returns-2 c =
-    let second = c .before .before in
+    let third = c .before .before in
+    let second = third .before .before .before .before in
     let first = second .before .before .before .before in
-    let tail = first .before .before in
-    let long = tail .before .before .before in
+    let long = first .before .before .before .before .before in
     let start = long .before .before in (
       simp (le-ltb _ _ (long .if1 .left)),
-      put-record (start .args .chip) (start .args .out .now) (tail .tail-of .result) _ _ (first .put-32 .ensures .0)
-          (second .put-322 .ensures .0) (long .if1 .left) (tail .tail-of .ensures) (first .put-32 .ensures .1)
-          (second .put-322 .ensures .1),
+      rw (le-ltb _ _ (long .if1 .left))
+          (put-record (start .args .chip .port) (start .args .out .now) _ _ (first .put-memory .ensures .0) (long .if1 .left)
+          (first .put-memory .ensures .1) (second .put-frame .ensures) (start .args .chip .settings) _ (third .put-settings .ensures)),
     )
 
 pub write-spec : {M : Type 1} → statement M
 write-spec =
     tie.close
-    (tie.spec returns tail-of-requires put-32-requires put-32-requires-2 same-length returns-2)
+    (tie.spec
+    returns
+    put-memory-requires
+    put-frame-requires
+    put-settings-requires
+    same-length
+    returns-2)
