@@ -53,11 +53,12 @@ readOf b = cond (recordValid b) (record { answer = verdict.Valid; chip = chipOf 
 unfoldable pub writtenAs : ℕ → List ℕ → Written
 writtenAs count buffer = cond (ltb (length buffer) 64) (written.Refused OutputShort) (written.Bytes count)
 
--- A record over the start of a buffer that has room for it.
+-- The 64 bytes over the start of a buffer; one that is too short stays as it was.
 unfoldable pub writtenOver : Chip → List ℕ → List ℕ
 writtenOver chip buffer = cond (ltb (length buffer) 64) buffer (over buffer 0 (recordOf chip))
 
--- A part of a record over a buffer that holds one: the port's 40 bytes over its start, and the counters' 6 from byte 51 on.
+-- A part of a record over a buffer that holds one, alike: the port's 40 bytes over its start, and the counters' 6 from
+-- byte 51 on.
 unfoldable pub portOver : Port → List ℕ → List ℕ
 portOver port buffer = cond (ltb (length buffer) 64) buffer (over buffer 0 (port .memory ++ frameBytes port))
 

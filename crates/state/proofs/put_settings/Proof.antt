@@ -1,4 +1,4 @@
--- `state::put_settings` meets its contract: stores one after another. Assumes nothing.
+-- `state::put_settings` meets its contract: stores one after another, the counters, and stores again. Assumes nothing.
 use native.Mathlib.Omega.{arith}
 use lib.ListN.{length-set}
 use Rattle.state.proofs.RecordLaws.{put-settings}
@@ -75,6 +75,7 @@ put-counters-requires c κs = simp length-set (omega arith)
 cast-out-6 : tie.Need-cast-out-6
 cast-out-6 c = search needs
 
+-- the last store fits, and so do those between the counters and it
 slice-write-out-18 : tie.Need-slice-write-out-18
 slice-write-out-18 c =
     let called = c .before .before .before in
