@@ -14,6 +14,8 @@ use Rattle.chip.proofs.Chip.pins.Kinds as pins-kinds
 use Rattle.chip.proofs.Chip.pins.Reads as pins-reads
 use Rattle.chip.proofs.Chip.run.Kinds as run-kinds
 use Rattle.chip.proofs.Chip.run.Reads as run-reads
+use Rattle.chip.proofs.empty.Kinds as empty-kinds
+use Rattle.chip.proofs.empty.Reads as empty-reads
 use Rattle.chip.proofs.power_on.Kinds as power-on-kinds
 use Rattle.chip.proofs.power_on.Reads as power-on-reads
 
@@ -34,6 +36,9 @@ pins-determined κs args x y end end' p q = p ∙ sym q
 
 pub run-determined : Determined 1 run-kinds.ps run-kinds.r run-reads.Post
 run-determined κs args x y end end' p q = p ∙ sym q
+
+pub empty-determined : Determined 0 empty-kinds.ps empty-kinds.r empty-reads.Post
+empty-determined κs args x y end end' p q = p ∙ sym q
 
 pub power-on-determined : Determined 1 power-on-kinds.ps power-on-kinds.r power-on-reads.Post
 power-on-determined κs args x y end end' p q = p ∙ sym q

@@ -30,9 +30,12 @@ freshChip memory =
       settings = powerOn;
     }
 
--- A refused power-on hands out a chip with an empty memory.
+-- With an empty memory: 01 "The listing" begins so, and a refusal hands out such a chip.
+unfoldable pub emptyChip : Chip
+emptyChip = freshChip (replicate 32 0)
+
 abbrev pub notStarted : Refusal → PoweredOn
-notStarted refusal = record { answer = Refused refusal; chip = freshChip (replicate 32 0) }
+notStarted refusal = record { answer = Refused refusal; chip = emptyChip }
 
 -- 29 where the memory is not 32 values; then 23 at the lowest value above 15.
 unfoldable pub poweredOn : List ℕ → PoweredOn

@@ -6,7 +6,7 @@ ghost use lib.Bits.{bitAnd};
 ghost use lib.ListN.{getD, set};
 ghost use Rattle.chip.specs.Chip.{memoryAfter, settingsAfter, obeyedAs, moved, stepped, ticked, advanced, runStart, ran};
 ghost use Rattle.chip.specs.Pins.{pinsShown};
-ghost use Rattle.chip.specs.PowerOn.{freshChip, notStarted, poweredOn};
+ghost use Rattle.chip.specs.PowerOn.{freshChip, emptyChip, notStarted, poweredOn};
 use commands::Decoded;
 use frames::Act;
 use frames::Answer;
@@ -267,12 +267,19 @@ fn fresh(memory: [u8; 32]) -> Chip
     }
 }
 
+// A chip at power-on with an empty memory: where a listing begins, and what is handed out beside a refusal.
+pub fn empty() -> Chip
+    ensures { λ r. ⌜ r ≡ emptyChip ⌝ }
+{
+    fresh([0u8; 32])
+}
+
 fn not_started(refusal: Refusal) -> PoweredOn
     ensures { λ r. ⌜ r ≡ notStarted refusal ⌝ }
 {
     PoweredOn {
         answer: Start::Refused(refusal),
-        chip: fresh([0u8; 32]),
+        chip: empty(),
     }
 }
 

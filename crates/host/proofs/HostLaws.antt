@@ -16,7 +16,7 @@ use Rattle.ground.specs.Refusals.{refusalPlace}
 use Rattle.chip.specs.declared.PoweredOn.{PoweredOn}
 use Rattle.chip.specs.declared.Start.{Start}
 use Rattle.chip.specs.declared.Start.the-variants as start
-use Rattle.chip.specs.PowerOn.{freshChip, poweredOn}
+use Rattle.chip.specs.PowerOn.{freshChip, emptyChip, poweredOn}
 use Rattle.chip.specs.Valid.{Nibbles, Valid}
 use Rattle.chip.proofs.ValidLaws.{freshChip-valid}
 use Rattle.driver.specs.declared.Answer.{Answer}
@@ -58,7 +58,7 @@ fresh-valid : (memory : List ℕ) → length memory ≡ 32 → length memory ≤
 fresh-valid memory size low = freshChip-valid memory size (nibbles-from memory (none-above 15 memory low))
 
 started : (memory : List ℕ) → Started (poweredOn memory)
-unfolding poweredOn
+unfolding poweredOn emptyChip
 started memory =
     let empty : Valid (freshChip (replicate 32 0)) = fresh-valid (replicate 32 0) refl (omega arith) in
     by-cases Started (eqb (length memory) 32)

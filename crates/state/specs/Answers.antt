@@ -11,7 +11,7 @@ use Rattle.ground.specs.Written.{over}
 use Rattle.clock.specs.declared.Counters.{Counters}
 use Rattle.chip.specs.declared.Port.{Port}
 use Rattle.chip.specs.declared.Chip.{Chip}
-use Rattle.chip.specs.PowerOn.{freshChip}
+use Rattle.chip.specs.PowerOn.{emptyChip}
 use Rattle.state.specs.declared.SettingsRead.{SettingsRead}
 use Rattle.state.specs.declared.SettingsRead.the-variants.{Set, NoSettings}
 use Rattle.state.specs.declared.Reading.{Reading}
@@ -44,7 +44,7 @@ settingsIn b = cond (recordValid b) (Set (settingsOf b)) NoSettings
 
 -- 28: a malformed record hands out a chip at power-on with an empty memory.
 abbrev pub malformed : Reading
-malformed = record { answer = verdict.Refused Malformed; chip = freshChip (replicate 32 0) }
+malformed = record { answer = verdict.Refused Malformed; chip = emptyChip }
 
 unfoldable pub readOf : List ℕ → Reading
 readOf b = cond (recordValid b) (record { answer = verdict.Valid; chip = chipOf b }) malformed

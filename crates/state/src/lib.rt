@@ -430,12 +430,9 @@ fn value_from(low: u8, high: u8) -> u16
 fn not_valid() -> Reading
     ensures { λ r. ⌜ r ≡ malformed ⌝ }
 {
-    let zeros = [0u8; 32];
-    let started = chip::power_on(&zeros);
-    let chip = started.chip;
     Reading {
         answer: Verdict::Refused(Refusal::Malformed),
-        chip,
+        chip: chip::empty(),
     }
 }
 

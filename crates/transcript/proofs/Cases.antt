@@ -4,7 +4,8 @@ use mathlib.Core.List.{List, [], _∷_}
 use Prim.Native.Nat.{ℕ}
 use Rattle.frames.specs.Frames.{identified, identTaken, writeToTaken, nibbleTaken, taken, closed, frame}
 use Rattle.chip.specs.Chip.{memoryAfter, settingsAfter, framedBy, moved, stepped}
-use Rattle.transcript.specs.Listing.{begun, classOf, digits, decimal, field, line, answerLine, badLine, endLine}
+use Rattle.chip.specs.PowerOn.{emptyChip}
+use Rattle.transcript.specs.Listing.{classOf, digits, decimal, field, line, answerLine, badLine, endLine}
 use Rattle.transcript.specs.Listing.{listFrom, listing}
 
 -- `fece46ce46464646cecece46ce46f` writes 5 at address 3
@@ -35,5 +36,5 @@ pub listings-computed :
     × (listing too-many-bits ≡ too-many-bits-listed)
     × (listing [] ≡ 101 ∷ 110 ∷ 100 ∷ 32 ∷ 48 ∷ 32 ∷ 48 ∷ 10 ∷ [])
     × (listing (116 ∷ 32 ∷ 116 ∷ 9 ∷ 116 ∷ []) ≡ 98 ∷ 97 ∷ 100 ∷ 32 ∷ 51 ∷ 10 ∷ [])
-unfolding begun classOf digits decimal field line answerLine badLine endLine listFrom listing stepped moved framedBy memoryAfter settingsAfter frame taken closed identified identTaken writeToTaken nibbleTaken
+unfolding emptyChip classOf digits decimal field line answerLine badLine endLine listFrom listing stepped moved framedBy memoryAfter settingsAfter frame taken closed identified identTaken writeToTaken nibbleTaken
 listings-computed = (refl, refl, refl, refl)

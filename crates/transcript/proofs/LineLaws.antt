@@ -17,12 +17,13 @@ use Rattle.frames.specs.declared.Answer.{Answer}
 use Rattle.frames.specs.Answers.{answerNumber, firstDetail, secondDetail}
 use Rattle.chip.specs.declared.Chip.{Chip}
 use Rattle.chip.specs.Chip.{stepped, ticked}
+use Rattle.chip.specs.PowerOn.{emptyChip}
 use Rattle.transcript.specs.declared.Class.{Class}
 use Rattle.transcript.specs.declared.Class.the-variants.{Sample, Tick, Skipped, Bad}
 use Rattle.transcript.specs.declared.Listed.{Listed}
 use Rattle.transcript.specs.declared.Listed.the-variants.{Written, Refused}
 use Rattle.transcript.specs.Listing.{ListedAs, lists, listFrom, listing, roomFor}
-use Rattle.transcript.specs.Listing.{space, newline, field, line, answerLine, bad, badLine, end, endLine, begun, classOf}
+use Rattle.transcript.specs.Listing.{space, newline, field, line, answerLine, bad, badLine, end, endLine, classOf}
 use Rattle.transcript.proofs.DecimalLaws.{length-field}
 
 pub length-line : (number kind first second : ℕ) → length (line number kind first second) ≤ 24
@@ -82,7 +83,7 @@ pub listing-fits : (input : List ℕ) → length (listing input) ≤ roomFor (le
 unfolding listing
 listing-fits input =
     by-cases (λ (l : List ℕ). length l ≤ roomFor (length input)) (ltb 65536 (length input)) (λ e. omega arith)
-    (λ e. omega (arith, ltb-false 65536 (length input) e, length-listFrom begun 0 0 0 input))
+    (λ e. omega (arith, ltb-false 65536 (length input) e, length-listFrom emptyChip 0 0 0 input))
 
 -- so what was written is within the buffer
 pub written-within : {input before after : List ℕ} {result : Listed} (count : ℕ) → ListedAs input before after result

@@ -12,9 +12,10 @@ use Rattle.ground.proofs.WrittenLaws.{wrote-then}
 use Rattle.chip.specs.declared.Chip.{Chip}
 use Rattle.chip.specs.declared.Stepped.{Stepped}
 use Rattle.chip.specs.Chip.{stepped, ticked}
+use Rattle.chip.specs.PowerOn.{emptyChip}
 use Rattle.transcript.specs.declared.Class.{Class}
 use Rattle.transcript.specs.declared.Class.the-variants.{Sample, Tick, Skipped, Bad}
-use Rattle.transcript.specs.Listing.{answerLine, badLine, endLine, begun, classOf, lists, listFrom}
+use Rattle.transcript.specs.Listing.{answerLine, badLine, endLine, classOf, lists, listFrom}
 use Rattle.transcript.proofs.DecimalLaws.{wrote-length}
 use Rattle.transcript.proofs.LineLaws.{length-answerLine, length-listFrom}
 
@@ -25,9 +26,9 @@ pub record Going (input before now : List ℕ) (chip : Chip) (at samples ticks i
   pub room : at ≤ 24 * i
   pub same : length now ≡ length before
   pub onward : (after : List ℕ) (k : ℕ) → Wrote now at (listFrom chip samples ticks i (drop i input)) after k
-      → Wrote before 0 (listFrom begun 0 0 0 input) after k
+      → Wrote before 0 (listFrom emptyChip 0 0 0 input) after k
 
-pub going-starts : (input before : List ℕ) → Going input before before begun 0 0 0 0
+pub going-starts : (input before : List ℕ) → Going input before before emptyChip 0 0 0 0
 going-starts input before =
     record { reach = omega arith; counted = omega arith; room = omega arith; same = refl; onward = λ after k w. w }
 
@@ -82,11 +83,11 @@ module _ {input before now : List ℕ} {chip : Chip} {at samples ticks i : ℕ}
 
   -- a last line
   pub going-stops : {after : List ℕ} {k : ℕ} → i < length input → Bad ≡ classOf (getD input i 0)
-      → Wrote now at (badLine i) after k → Wrote before 0 (listFrom begun 0 0 0 input) after k
+      → Wrote now at (badLine i) after k → Wrote before 0 (listFrom emptyChip 0 0 0 input) after k
   going-stops {after} {k} more e w = g .onward after k (rw (decided Bad more e) w)
 
   pub going-ends : {after : List ℕ} {k : ℕ} → length input ≤ i → Wrote now at (endLine samples ticks) after k
-      → Wrote before 0 (listFrom begun 0 0 0 input) after k
+      → Wrote before 0 (listFrom emptyChip 0 0 0 input) after k
   unfolding listFrom
   going-ends {after} {k} none w = g .onward after k (rw (drop-of-length-le input none) w)
 

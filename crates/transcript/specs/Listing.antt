@@ -4,7 +4,7 @@ use mathlib.Core.Path.{_≡_}
 use mathlib.Core.Bool.{cond, _&&_}
 use mathlib.Core.List.{List, [], _∷_, _++_}
 use lib.Dec.{ltb, leb, eqb}
-use lib.ListN.{length, replicate}
+use lib.ListN.{length}
 use Rattle.ground.specs.declared.Refusal.the-variants.{OutputShort}
 use Rattle.ground.specs.Refusals.{refusalNumber}
 use Rattle.ground.specs.Written.{over}
@@ -12,7 +12,7 @@ use Rattle.frames.specs.declared.Answer.{Answer}
 use Rattle.frames.specs.Answers.{answerNumber, firstDetail, secondDetail}
 use Rattle.chip.specs.declared.Chip.{Chip}
 use Rattle.chip.specs.Chip.{stepped, ticked}
-use Rattle.chip.specs.PowerOn.{freshChip}
+use Rattle.chip.specs.PowerOn.{emptyChip}
 use Rattle.transcript.specs.declared.Class.{Class}
 use Rattle.transcript.specs.declared.Class.the-variants.{Sample, Tick, Skipped, Bad}
 use Rattle.transcript.specs.declared.Listed.{Listed}
@@ -24,10 +24,6 @@ space = 32
 
 abbrev pub newline : ℕ
 newline = 10
-
--- The listing starts with a chip at power-on whose memory is zero.
-unfoldable pub begun : Chip
-begun = freshChip (replicate 32 0)
 
 -- A hexadecimal digit in lower case is a sample of its value and `t` a tick; a space and a newline are skipped.
 unfoldable pub classOf : ℕ → Class
@@ -92,9 +88,9 @@ listFrom chip samples ticks offset [] = endLine samples ticks
 listFrom chip samples ticks offset (byte ∷ input) =
     lists (classOf byte) chip samples ticks offset (λ next s t. listFrom next s t (offset + 1) input)
 
--- The whole output: of more than 65,536 bytes only `long`, whatever they are.
+-- The whole output, from power-on with an empty memory; of more than 65,536 bytes only `long`, whatever they are.
 unfoldable pub listing : List ℕ → List ℕ
-listing input = cond (ltb 65536 (length input)) long (listFrom begun 0 0 0 input)
+listing input = cond (ltb 65536 (length input)) long (listFrom emptyChip 0 0 0 input)
 
 -- The room for the listing of any input of so many bytes: 24 for the line of each byte that counts, 16 for the last.
 abbrev pub roomFor : ℕ → ℕ

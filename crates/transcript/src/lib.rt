@@ -5,8 +5,9 @@ ghost use Prim.Native.Nat.{_+_, _*_, _≤_, _<_};
 ghost use lib.Dec.{leb};
 ghost use lib.ListN.{length};
 ghost use Rattle.ground.specs.Written.{Wrote};
+ghost use Rattle.chip.specs.PowerOn.{emptyChip};
 ghost use Rattle.transcript.specs.Listing.{classOf, decimal, field, line, answerLine, badLine, endLine, long};
-ghost use Rattle.transcript.specs.Listing.{begun, listFrom, roomFor, ListedAs};
+ghost use Rattle.transcript.specs.Listing.{listFrom, roomFor, ListedAs};
 use chip::Chip;
 use frames::Answer;
 use ground::Refusal;
@@ -145,21 +146,12 @@ fn put_long(out: &mut [u8]) -> usize
     put_bytes(out, 0, b"long\n")
 }
 
-// A chip at power-on with zero memory.
-fn begin() -> Chip
-    ensures { λ r. ⌜ r ≡ begun ⌝ }
-{
-    let zeros = [0u8; 32];
-    let on = chip::power_on(&zeros);
-    on.chip
-}
-
 // The lines of an input that is not too long.
 fn put_lines(input: &[u8], out: &mut [u8]) -> usize
     requires { ⌜ (length (now input) ≤ 65536) × (24 * length (now input) + 16 ≤ length (now out)) ⌝ }
-    ensures { λ r. ⌜ Wrote (now (out .entry)) 0 (listFrom begun 0 0 0 (now (input .entry))) (now (out .exit)) r ⌝ }
+    ensures { λ r. ⌜ Wrote (now (out .entry)) 0 (listFrom emptyChip 0 0 0 (now (input .entry))) (now (out .exit)) r ⌝ }
 {
-    let mut chip = begin();
+    let mut chip = chip::empty();
     let mut at: usize = 0;
     let mut samples: u32 = 0;
     let mut ticks: u32 = 0;

@@ -5,7 +5,7 @@
 // of each capture a line with the pins, numbered as the simulator does, and the 32 cells shown, and one with the 64 bytes
 // of the state record. Of the input 65,536 bytes are read. Assumes nothing beyond `libc`.
 ghost use mathlib.Core.Path.{_≡_};
-ghost use Rattle.vectors.specs.Vectors.{sampleOf, begun, after};
+ghost use Rattle.vectors.specs.Vectors.{sampleOf, after};
 use chip::Chip;
 use frames::Answer;
 
@@ -58,22 +58,13 @@ fn show_chip(chip: Chip) {
     show(&bytes);
 }
 
-// A chip at power-on with zero memory.
-fn begin() -> Chip
-    ensures { λ r. ⌜ r ≡ begun ⌝ }
-{
-    let zeros = [0u8; 32];
-    let on = chip::power_on(&zeros);
-    on.chip
-}
-
 // The chip after a byte of the input; a sample's answer, and a capture's end, is written.
 fn fed(chip: Chip, byte: u8) -> Chip
     ensures { λ r. ⌜ r ≡ after chip byte ⌝ }
 {
     if byte == b'\n' {
         show_chip(chip);
-        return begin();
+        return chip::empty();
     }
     if byte == b't' {
         return chip.tick();
@@ -87,7 +78,7 @@ fn fed(chip: Chip, byte: u8) -> Chip
 fn main() {
     let mut input = io::large_buffer();
     let count = io::read_full(0, &mut input);
-    let mut chip = begin();
+    let mut chip = chip::empty();
     let mut i: usize = 0;
     while i < count {
         chip = fed(chip, input[i]);

@@ -3,11 +3,11 @@ use borrow.Author.Needs.{needs}
 use Rattle.chip.proofs.not_started.Statement.{statement}
 use Rattle.chip.proofs.not_started.Tie as tie
 
-fresh-requires : tie.Need-fresh-requires
-fresh-requires c κs = search needs
+empty-requires : tie.Need-empty-requires
+empty-requires c κs = search needs
 
 returns : tie.Need-returns
-returns c = simp (c .fresh .ensures)
+returns c = simp (c .empty .ensures)
 
 pub not-started-spec : {M : Type 1} → statement M
-not-started-spec = tie.close (tie.spec fresh-requires returns)
+not-started-spec = tie.close (tie.spec empty-requires returns)

@@ -7,8 +7,9 @@ use borrow.Author.Tests.{lt-ltb, le-ltb}
 use lib.ListN.{length}
 use Rattle.ground.specs.declared.Refusal.the-variants.{OutputShort}
 use Rattle.ground.specs.Written.{over, Wrote}
+use Rattle.chip.specs.PowerOn.{emptyChip}
 use Rattle.transcript.specs.declared.Listed.the-variants.{Written, Refused}
-use Rattle.transcript.specs.Listing.{long, begun, listFrom, listing, roomFor, ListedAs}
+use Rattle.transcript.specs.Listing.{long, listFrom, listing, roomFor, ListedAs}
 use borrow.Author.Needs.{needs}
 use Rattle.transcript.proofs.list.Statement.{statement}
 use Rattle.transcript.proofs.list.Tie as tie
@@ -33,7 +34,7 @@ only-long : (input : List ℕ) → 65536 < length input → listing input ≡ lo
 unfolding listing
 only-long input h = rw (lt-ltb 65536 (length input) h)
 
-not-long : (input : List ℕ) → length input ≤ 65536 → listing input ≡ listFrom begun 0 0 0 input
+not-long : (input : List ℕ) → length input ≤ 65536 → listing input ≡ listFrom emptyChip 0 0 0 input
 unfolding listing
 not-long input h = rw (le-ltb 65536 (length input) h)
 
@@ -70,7 +71,7 @@ returns-3 c =
     let at-if2 : _ = c .before .before .before .before in
     let at-room : _ = at-if2 .before .before in
     let entry : _ = at-room .before .before .before in
-    written (entry .args .input .now) (listFrom begun 0 0 0 (entry .args .input .now))
+    written (entry .args .input .now) (listFrom emptyChip 0 0 0 (entry .args .input .now))
     (omega (arith, at-room .room .ensures)) (not-long _ (at-if2 .if2 .left))
     (c .before .before .put-lines .ensures)
 

@@ -15,11 +15,11 @@ Inv-loop input out₀ chip₀ at₀ samples₀ ticks₀ i₀ out chip at samples
 abbrev μ-loop : tie.MeasureT-loop
 μ-loop input out₀ chip₀ at₀ samples₀ ticks₀ i₀ out chip at samples ticks i = length input - i
 
-begin-requires : tie.Need-begin-requires Inv-loop μ-loop
-begin-requires c κs = search needs
+empty-requires : tie.Need-empty-requires Inv-loop μ-loop
+empty-requires c κs = search needs
 
 loop-holds : tie.Need-loop-holds Inv-loop μ-loop
-loop-holds c = rw (c .begin .ensures) (going-starts _ _)
+loop-holds c = rw (c .empty .ensures) (going-starts _ _)
 
 shared-slice-read-classify : tie.Need-shared-slice-read-classify Inv-loop μ-loop
 shared-slice-read-classify c = search needs
@@ -136,7 +136,7 @@ put-lines-spec =
     (tie.spec
     Inv-loop
     μ-loop
-    begin-requires
+    empty-requires
     loop-holds
     shared-slice-read-classify
     classify-requires

@@ -9,12 +9,12 @@ use Rattle.vectors.proofs.fed.Tie as tie
 show-chip-requires : tie.Need-show-chip-requires
 show-chip-requires c κs = search needs
 
-begin-requires : tie.Need-begin-requires
-begin-requires c κs = search needs
+empty-requires : tie.Need-empty-requires
+empty-requires c κs = search needs
 
 returns : tie.Need-returns
 unfolding after
-returns c = simp (eq-eqb _ _ (c .before .before .if1 .taken), c .begin .ensures)
+returns c = simp (eq-eqb _ _ (c .before .before .if1 .taken), c .empty .ensures)
 
 tick-requires : tie.Need-tick-requires
 tick-requires c κs = search needs
@@ -50,7 +50,7 @@ fed-spec =
     tie.close
     (tie.spec
     show-chip-requires
-    begin-requires
+    empty-requires
     returns
     tick-requires
     returns-2

@@ -20,8 +20,8 @@ slice-aggregate-read-full c = search needs
 read-full-requires : tie.Need-read-full-requires Inv-loop μ-loop
 read-full-requires c κs = search needs
 
-begin-requires : tie.Need-begin-requires Inv-loop μ-loop
-begin-requires c κs = search needs
+empty-requires : tie.Need-empty-requires Inv-loop μ-loop
+empty-requires c κs = search needs
 
 loop-holds : tie.Need-loop-holds Inv-loop μ-loop
 loop-holds c = search needs
@@ -53,7 +53,7 @@ main-spec =
     large-buffer-requires
     slice-aggregate-read-full
     read-full-requires
-    begin-requires
+    empty-requires
     loop-holds
     array-read-fed
     fed-requires
