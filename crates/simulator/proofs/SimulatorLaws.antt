@@ -7,7 +7,6 @@ use native.Mathlib.Omega.{arith}
 use lib.Bits.{bitAnd}
 use lib.ListN.{length, take, drop, drop-of-length-le}
 use borrow.Author.Tests.{lt-ltb, le-ltb}
-use Rattle.ground.specs.declared.Refusal.{Refusal}
 use Rattle.ground.specs.Bits.{bitNumber}
 use Rattle.ground.specs.Written.{over}
 use Rattle.clock.specs.declared.Counters.{Counters}
@@ -53,12 +52,11 @@ module _ (b : List ℕ) (reading : Reading) (e : reading ≡ readOf b) where
       by true z = refl
       by false z = cc
 
-  invalid : (refusal : Refusal) → reading .answer ≡ verdict.Refused refusal → recordValid b ≡ false
+  invalid : reading .answer ≡ verdict.Malformed → recordValid b ≡ false
   unfolding readOf
-  invalid refusal z = by (recordValid b) (sym (ap (λ (r : Reading). r .answer) e) ∙ z)
+  invalid z = by (recordValid b) (sym (ap (λ (r : Reading). r .answer) e) ∙ z)
     where
-      by : (t : Bool) → cond t (record { answer = verdict.Valid; chip = chipOf b }) malformed .answer ≡ verdict.Refused refusal
-          → t ≡ false
+      by : (t : Bool) → cond t (record { answer = verdict.Valid; chip = chipOf b }) malformed .answer ≡ verdict.Malformed → t ≡ false
       by true z = cc
       by false z = refl
 
@@ -129,10 +127,9 @@ counters-alone (suc n) s = tick-alone (ticks.advanced n (ticks.ticked s) .counte
 -- ---- step
 
 module _ (b : List ℕ) (reading : Reading) (e : reading ≡ readOf b) (sample : ℕ) where
-  pub step-malformed : (refusal : Refusal) → reading .answer ≡ verdict.Refused refusal
-      → (28 ≡ stepReturns b sample) × (b ≡ stepBytes b sample)
+  pub step-malformed : reading .answer ≡ verdict.Malformed → (28 ≡ stepReturns b sample) × (b ≡ stepBytes b sample)
   unfolding stepReturns stepBytes
-  step-malformed refusal z = let v = invalid b reading e refusal z in (rw v, rw v)
+  step-malformed z = let v = invalid b reading e z in (rw v, rw v)
 
   module _ (z : reading .answer ≡ verdict.Valid) where
     pub step-above : 15 < sample → (20 ≡ stepReturns b sample) × (b ≡ stepBytes b sample)

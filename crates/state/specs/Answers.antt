@@ -24,7 +24,7 @@ use Rattle.state.specs.Record.{frameBytes, counterBytes, settingsRight, 
 -- The paper's numbers: 0 for a valid record, the count for bytes written, else the refusal's.
 abbrev pub verdictNumber : Verdict → ℕ
 verdictNumber verdict.Valid = 0
-verdictNumber (verdict.Refused refusal) = refusalNumber refusal
+verdictNumber verdict.Malformed = refusalNumber Malformed
 
 abbrev pub writtenNumber : Written → ℕ
 writtenNumber (written.Bytes count) = count
@@ -44,7 +44,7 @@ settingsIn b = cond (recordValid b) (Set (settingsOf b)) NoSettings
 
 -- 28: a malformed record hands out a chip at power-on with an empty memory.
 abbrev pub malformed : Reading
-malformed = record { answer = verdict.Refused Malformed; chip = emptyChip }
+malformed = record { answer = verdict.Malformed; chip = emptyChip }
 
 unfoldable pub readOf : List ℕ → Reading
 readOf b = cond (recordValid b) (record { answer = verdict.Valid; chip = chipOf b }) malformed

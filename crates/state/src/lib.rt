@@ -83,7 +83,7 @@ pub enum SettingsRead {
 // Whether a record was accepted.
 pub enum Verdict {
     Valid,
-    Refused(Refusal),
+    Malformed, // 28
 }
 
 // The chip that a record says; where it was refused, one at power-on with zeros for its memory.
@@ -431,7 +431,7 @@ fn not_valid() -> Reading
     ensures { λ r. ⌜ r ≡ malformed ⌝ }
 {
     Reading {
-        answer: Verdict::Refused(Refusal::Malformed),
+        answer: Verdict::Malformed,
         chip: chip::empty(),
     }
 }

@@ -20,7 +20,7 @@ returns : tie.Need-returns
 returns c =
     let read = c .before .before in
     let start = read .before .before .before in
-    step-malformed (start .args .bytes .now) (read .read .result) (read .read .ensures) (start .args .sample) _ (c .enum-told2 .given .1)
+    step-malformed (start .args .bytes .now) (read .read .result) (read .read .ensures) (start .args .sample) (c .enum-told2 .given .1)
 
 same-length-2 : tie.Need-same-length-2
 same-length-2 c = search needs
