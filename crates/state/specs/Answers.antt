@@ -4,7 +4,7 @@ use Prim.Native.Nat.{ℕ}
 use mathlib.Core.Bool.{cond}
 use mathlib.Core.List.{List, _++_}
 use lib.Dec.{ltb}
-use lib.ListN.{length, replicate}
+use lib.ListN.{length}
 use Rattle.ground.specs.declared.Refusal.the-variants.{OutputShort, Malformed}
 use Rattle.ground.specs.Refusals.{refusalNumber}
 use Rattle.ground.specs.Written.{over}
@@ -21,24 +21,24 @@ use Rattle.state.specs.declared.Written.{Written}
 use Rattle.state.specs.declared.Written.the-variants as written
 use Rattle.state.specs.Record.{frameBytes, counterBytes, settingsRight, settingsOf, recordValid, recordOf, chipOf}
 
--- The paper's numbers: 0 for a valid record, the count for bytes written, else the refusal's.
+-- The paper's numbers: 0 for a valid record and for its settings, the count for bytes written, else the refusal's.
 abbrev pub verdictNumber : Verdict → ℕ
 verdictNumber verdict.Valid = 0
 verdictNumber verdict.Malformed = refusalNumber Malformed
+
+abbrev pub settingsNumber : SettingsRead → ℕ
+settingsNumber (Set settings) = 0
+settingsNumber NoSettings = refusalNumber Malformed
 
 abbrev pub writtenNumber : Written → ℕ
 writtenNumber (written.Bytes count) = count
 writtenNumber (written.Refused refusal) = refusalNumber refusal
 
--- The settings' bytes, where they are right.
+-- The settings' bytes by themselves, where they are right.
 unfoldable pub settingsRead : List ℕ → SettingsRead
 settingsRead b = cond (settingsRight b) (Set (settingsOf b)) NoSettings
 
 -- 28: a malformed record has no settings.
-abbrev pub settingsNumber : SettingsRead → ℕ
-settingsNumber (Set settings) = 0
-settingsNumber NoSettings = refusalNumber Malformed
-
 unfoldable pub settingsIn : List ℕ → SettingsRead
 settingsIn b = cond (recordValid b) (Set (settingsOf b)) NoSettings
 

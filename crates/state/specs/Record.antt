@@ -1,7 +1,7 @@
 -- 01 "State record and simulator": the 64 bytes of a chip, which lists of bytes are valid, and the chip that they say.
 -- Assumes nothing.
 use Prim.Native.Nat.{ℕ, _+_, _*_, _/_, _%_, _^_}
-use mathlib.Core.Bool.{Bool, true, false, cond, not, _&&_, _||_}
+use mathlib.Core.Bool.{Bool, true, cond, not, _&&_, _||_}
 use mathlib.Core.List.{List, [], _∷_, _++_}
 use lib.Dec.{ltb, leb, eqb}
 use lib.ListN.{length, getD, take, replicate}
@@ -84,6 +84,7 @@ bitsRight code count value = leb count (getD mostBits code 0) && ltb value (2 ^ 
 unfoldable pub restRight : ℕ → ℕ → ℕ → ℕ → Bool
 restRight code at position line = (eqb code 4 || eqb code 5) || (eqb at 0 && eqb position 0 && eqb line 0)
 
+-- Bytes 32 to 39, each in range, go together.
 unfoldable pub frameRight : ℕ → ℕ → ℕ → ℕ → ℕ → ℕ → ℕ → Bool
 frameRight lines code count value at position line =
     goesWithCs lines code && bitsRight code count value && restRight code at position line
