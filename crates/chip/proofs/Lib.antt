@@ -1,3 +1,4 @@
 pub mod Determined
+pub mod PowerOnLaws
 pub mod RunLaws
 pub mod ValidLaws

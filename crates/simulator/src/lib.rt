@@ -16,7 +16,8 @@ use state::Verdict;
 
 // The pins but for the cells, as one number: IRQ, BZ and its partner by the settings, and byte 39.
 fn pins_code(settings: Settings, line: u8) -> u32
-    ensures { λ r. ⌜ r ≡ bitNumber (irqLow settings) + 2 * bitNumber (bzHigh settings) + 4 * bitNumber (partnerHigh settings) + 8 * line ⌝ }
+    ensures { λ r. ⌜ r ≡ bitNumber (irqLow settings) + 2 * bitNumber (bzHigh settings)
+        + 4 * bitNumber (partnerHigh settings) + 8 * line ⌝ }
 {
     let irq = pins::irq_low(settings);
     let bz = pins::bz_high(settings);

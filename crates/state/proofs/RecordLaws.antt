@@ -13,6 +13,7 @@ use lib.Pow.{pow-pos}
 use lib.Seq.{paste, length-paste, sets, sets-eq, drop-cons}
 use borrow.Author.Tests.{ltb-true, ltb-false, le-leb, lt-leb, eq-eqb, ne-eqb}
 use Rattle.ground.specs.Bits.{bitNumber}
+use Rattle.ground.specs.declared.Refusal.the-variants.{OutputShort}
 use Rattle.ground.specs.Written.{over, first32}
 use Rattle.ground.proofs.WrittenLaws.{over-paste, length-over, over-over}
 use Rattle.rules.specs.declared.Settings.{Settings}
@@ -25,8 +26,9 @@ use Rattle.state.specs.declared.LineRead.the-variants.{Does, NoLine}
 use Rattle.state.specs.declared.SettingsRead.the-variants.{Set, NoSettings}
 use Rattle.state.specs.declared.Reading.{Reading}
 use Rattle.state.specs.declared.Verdict.the-variants as verdict
+use Rattle.state.specs.declared.Written.the-variants as written
 use Rattle.state.specs.FrameCodes.{lineRead}
-use Rattle.state.specs.Answers.{verdictNumber, settingsNumber, settingsRead, settingsIn, malformed, readOf}
+use Rattle.state.specs.Answers.{verdictNumber, settingsNumber, writtenNumber, settingsRead, settingsIn, malformed, readOf, writtenAs}
 use Rattle.state.specs.Record.{frameBytes, counterBytes, settingsBytes, upTo, maxima, mostBits, byte, valueIn, framesRight, bytesFit, recordValid, settingsRight, settingsOf, phaseAt, chipOf, tailOf, recordOf}
 use Rattle.state.proofs.RangesLaws.{and-left, upTo-at}
 use Rattle.state.proofs.CodesLaws.{phase-there, line-there}
@@ -248,7 +250,7 @@ module _ (b : List ℕ) (long : length b ≡ 64) where
         let selected : settingsRight b ≡ true = rest .0 in
         rw (eq-eqb _ _ long, fit, selected, m, memory-taken b long, p, l, ← rest .1)
 
--- ---- reading accepts exactly the valid records, and refuses all others with 28
+-- ---- the paper's numbers: reading accepts exactly the valid records and refuses all others with 28, writing refuses with 25
 
 module _ (b : List ℕ) where
   pub read-number : verdictNumber (readOf b .answer) ≡ cond (recordValid b) 0 28
@@ -264,5 +266,13 @@ module _ (b : List ℕ) where
   settings-number = by (recordValid b)
     where
       by : (t : Bool) → settingsNumber (cond t (Set (settingsOf b)) NoSettings) ≡ cond t 0 28
+      by true = refl
+      by false = refl
+
+  pub written-number : (count : ℕ) → writtenNumber (writtenAs count b) ≡ cond (ltb (length b) 64) 25 count
+  unfolding writtenAs
+  written-number count = by (ltb (length b) 64)
+    where
+      by : (t : Bool) → writtenNumber (cond t (written.Refused OutputShort) (written.Bytes count)) ≡ cond t 25 count
       by true = refl
       by false = refl

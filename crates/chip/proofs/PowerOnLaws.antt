@@ -1,0 +1,26 @@
+-- What power-on answers, by the paper's numbers: 29 for a memory that is not 32 values, then 23 for a value above 15.
+-- Assumes nothing.
+use mathlib.Core.Path.{_≡_, refl}
+use mathlib.Core.Bool.{Bool, true, false, cond}
+use mathlib.Core.List.{List}
+use Prim.Native.Nat.{ℕ}
+use lib.Dec.{eqb, ltb}
+use lib.ListN.{length}
+use Rattle.ground.specs.declared.Refusal.the-variants.{NibbleAbove, MemoryCount}
+use Rattle.ground.specs.Places.{lowest, somewhere}
+use Rattle.chip.specs.declared.PoweredOn.{PoweredOn}
+use Rattle.chip.specs.declared.Start.the-variants.{On}
+use Rattle.chip.specs.PowerOn.{startNumber, freshChip, notStarted, poweredOn}
+
+pub start-number : (memory : List ℕ)
+    → startNumber (poweredOn memory .answer) ≡ cond (eqb (length memory) 32) (cond (somewhere (ltb 15) memory) 23 0) 29
+unfolding poweredOn
+start-number memory = by (eqb (length memory) 32) (somewhere (ltb 15) memory)
+  where
+    by : (long above : Bool)
+        → startNumber (cond long
+        (cond above (notStarted (NibbleAbove (lowest (ltb 15) memory))) (record { answer = On; chip = freshChip memory }))
+        (notStarted MemoryCount) .answer) ≡ cond long (cond above 23 0) 29
+    by true true = refl
+    by true false = refl
+    by false above = refl
