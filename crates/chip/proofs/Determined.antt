@@ -12,8 +12,6 @@ use Rattle.chip.proofs.Chip.advance.Kinds as advance-kinds
 use Rattle.chip.proofs.Chip.advance.Reads as advance-reads
 use Rattle.chip.proofs.Chip.pins.Kinds as pins-kinds
 use Rattle.chip.proofs.Chip.pins.Reads as pins-reads
-use Rattle.chip.proofs.Chip.run.Kinds as run-kinds
-use Rattle.chip.proofs.Chip.run.Reads as run-reads
 use Rattle.chip.proofs.empty.Kinds as empty-kinds
 use Rattle.chip.proofs.empty.Reads as empty-reads
 use Rattle.chip.proofs.power_on.Kinds as power-on-kinds
@@ -33,9 +31,6 @@ advance-determined κs args x y end end' p q = p ∙ sym q
 
 pub pins-determined : Determined 0 pins-kinds.ps pins-kinds.r pins-reads.Post
 pins-determined κs args x y end end' p q = p ∙ sym q
-
-pub run-determined : Determined 1 run-kinds.ps run-kinds.r run-reads.Post
-run-determined κs args x y end end' p q = p ∙ sym q
 
 pub empty-determined : Determined 0 empty-kinds.ps empty-kinds.r empty-reads.Post
 empty-determined κs args x y end end' p q = p ∙ sym q

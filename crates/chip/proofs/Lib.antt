@@ -1,4 +1,3 @@
 pub mod Determined
 pub mod PowerOnLaws
-pub mod RunLaws
 pub mod ValidLaws

@@ -1,7 +1,7 @@
 -- What power-on answers, by the paper's numbers: 29 for a memory that is not 32 values, then 23 for a value above 15.
 -- Assumes nothing.
 use mathlib.Core.Path.{_≡_, refl}
-use mathlib.Core.Bool.{Bool, true, false, cond}
+use mathlib.Core.Bool.{Bool, true, false, cond, not}
 use mathlib.Core.List.{List}
 use Prim.Native.Nat.{ℕ}
 use lib.Dec.{eqb, ltb}
@@ -18,9 +18,9 @@ unfolding poweredOn
 start-number memory = by (eqb (length memory) 32) (somewhere (ltb 15) memory)
   where
     by : (long above : Bool)
-        → startNumber (cond long
-        (cond above (notStarted (NibbleAbove (lowest (ltb 15) memory))) (record { answer = On; chip = freshChip memory }))
-        (notStarted MemoryCount) .answer) ≡ cond long (cond above 23 0) 29
+        → startNumber (cond (not long) (notStarted MemoryCount)
+        (cond above (notStarted (NibbleAbove (lowest (ltb 15) memory))) (record { answer = On; chip = freshChip memory })) .answer)
+        ≡ cond long (cond above 23 0) 29
     by true true = refl
     by true false = refl
     by false above = refl

@@ -1,8 +1,8 @@
 -- 01 "Samples", "What a sample is answered" and "Ticks", of the whole chip: what a sample and a tick make of it.
 -- Assumes nothing.
-use Prim.Native.Nat.{ℕ, _+_, _*_}
+use Prim.Native.Nat.{ℕ, _*_}
 use mathlib.Core.Bool.{cond}
-use mathlib.Core.List.{List, [], _∷_}
+use mathlib.Core.List.{List}
 use lib.Dec.{ltb}
 use lib.ListN.{getD, set}
 use Rattle.ground.specs.declared.Refusal.the-variants.{SampleAbove}
@@ -15,7 +15,7 @@ use Rattle.rules.specs.Ticks as ticks
 use Rattle.frames.specs.declared.Levels.{Levels}
 use Rattle.frames.specs.declared.Act.{Act}
 use Rattle.frames.specs.declared.Act.the-variants.{Keep, Store, Obey}
-use Rattle.frames.specs.declared.Answer.the-variants.{Nothing, Refused}
+use Rattle.frames.specs.declared.Answer.the-variants.{Refused}
 use Rattle.frames.specs.declared.Framed.{Framed}
 use Rattle.frames.specs.Samples.{levels, edge}
 use Rattle.frames.specs.Frames.{address, frame}
@@ -24,7 +24,6 @@ use Rattle.chip.specs.declared.Port.{Port}
 use Rattle.chip.specs.declared.Moved.{Moved}
 use Rattle.chip.specs.declared.Chip.{Chip}
 use Rattle.chip.specs.declared.Stepped.{Stepped}
-use Rattle.chip.specs.declared.Ran.{Ran}
 
 -- Of all answers only a stored nibble changes the memory.
 unfoldable pub memoryAfter : Act → List ℕ → List ℕ
@@ -83,16 +82,3 @@ ticked chip = record { port = chip .port; settings = ticks.ticked (chip .setting
 
 abbrev pub advanced : ℕ → Chip → Chip
 advanced n chip = record { port = chip .port; settings = ticks.advanced n (chip .settings) }
-
--- A run takes samples one after the other and ends before the first that is refused.
-abbrev pub runStart : Chip → Ran
-runStart chip = record { chip = chip; count = 0; answer = Nothing }
-
-abbrev pub ranOn : Ran → Stepped → Ran
-ranOn run next = record { chip = next .chip; count = run .count + 1; answer = next .answer }
-
-unfoldable pub ran : Ran → List ℕ → Ran
-ran run [] = run
-ran run (sample ∷ samples) =
-    cond (ltb 15 sample) (record { chip = run .chip; count = run .count; answer = Refused SampleAbove })
-    (ran (ranOn run (stepped (run .chip) sample)) samples)

@@ -1,11 +1,12 @@
 -- 01 "Commands", its power-on, of the whole chip; and its refusals in "Driver streams". Assumes nothing.
 use Prim.Native.Nat.{ℕ}
-use mathlib.Core.Bool.{cond}
-use mathlib.Core.List.{List}
+use mathlib.Core.Bool.{not}
+use mathlib.Core.List.{List, [], _∷_}
 use lib.Dec.{eqb, ltb}
 use lib.ListN.{length, replicate}
 use Rattle.ground.specs.declared.Refusal.{Refusal}
 use Rattle.ground.specs.declared.Refusal.the-variants.{NibbleAbove, MemoryCount}
+use Rattle.ground.specs.Outcomes.{Rung, refusedIf, ladder}
 use Rattle.ground.specs.Places.{lowest, somewhere}
 use Rattle.ground.specs.Refusals.{refusalNumber}
 use Rattle.rules.specs.Effects.{powerOn}
@@ -37,10 +38,11 @@ emptyChip = freshChip (replicate 32 0)
 abbrev pub notStarted : Refusal → PoweredOn
 notStarted refusal = record { answer = Refused refusal; chip = emptyChip }
 
--- 29 where the memory is not 32 values; then 23 at the lowest value above 15.
+-- Its refusals, in order: 29 where the memory is not 32 values, and 23 at the lowest value above 15.
+abbrev pub powerOnRefusals : List ℕ → List Rung
+powerOnRefusals memory =
+    refusedIf (not (eqb (length memory) 32)) MemoryCount
+    ∷ refusedIf (somewhere (ltb 15) memory) (NibbleAbove (lowest (ltb 15) memory)) ∷ []
+
 unfoldable pub poweredOn : List ℕ → PoweredOn
-poweredOn memory =
-    cond (eqb (length memory) 32)
-    (cond (somewhere (ltb 15) memory) (notStarted (NibbleAbove (lowest (ltb 15) memory)))
-    (record { answer = On; chip = freshChip memory }))
-    (notStarted MemoryCount)
+poweredOn memory = ladder notStarted (powerOnRefusals memory) (record { answer = On; chip = freshChip memory })

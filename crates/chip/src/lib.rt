@@ -4,7 +4,7 @@ ghost use mathlib.Core.Path.{_≡_};
 ghost use mathlib.Core.List.{map};
 ghost use lib.Bits.{bitAnd};
 ghost use lib.ListN.{getD, set};
-ghost use Rattle.chip.specs.Chip.{memoryAfter, settingsAfter, obeyedAs, moved, stepped, ticked, advanced, runStart, ran};
+ghost use Rattle.chip.specs.Chip.{memoryAfter, settingsAfter, obeyedAs, moved, stepped, ticked, advanced};
 ghost use Rattle.chip.specs.Pins.{pinsShown};
 ghost use Rattle.chip.specs.PowerOn.{freshChip, emptyChip, notStarted, poweredOn};
 use commands::Decoded;
@@ -60,13 +60,6 @@ pub struct Pins {
     pub partner: bool, // high
     pub line: Line,
     pub cells: [u8; 32],
-}
-
-// A run over samples: the chip after it, how many samples it took, and what the last was answered.
-pub struct Ran {
-    pub chip: Chip,
-    pub count: usize,
-    pub answer: Answer,
 }
 
 // The nibble at an address, or 0 where there is none.
@@ -207,34 +200,6 @@ impl Chip {
             partner: pins::partner_high(settings),
             line,
             cells: under_mask(memory, pins::shown_mask(settings)),
-        }
-    }
-
-    // The chip after a run of samples, which ends before the first that is refused.
-    pub fn run(self, samples: &[u8]) -> Ran
-        ensures { λ r. ⌜ r ≡ ran (runStart self) (now (samples .entry)) ⌝ }
-    {
-        let mut chip = self;
-        let mut answer = Answer::Nothing;
-        let mut i: usize = 0;
-        while i < samples.len() {
-            let sample = samples[i];
-            if 15 < sample {
-                return Ran {
-                    chip,
-                    count: i,
-                    answer: Answer::Refused(Refusal::SampleAbove),
-                };
-            }
-            let stepped = chip.step(sample);
-            chip = stepped.chip;
-            answer = stepped.answer;
-            i += 1;
-        }
-        Ran {
-            chip,
-            count: i,
-            answer,
         }
     }
 }

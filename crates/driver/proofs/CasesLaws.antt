@@ -5,9 +5,10 @@ use mathlib.Core.List.{List, [], _∷_}
 use Prim.Native.Nat.{ℕ, _+_, _*_, _≤_}
 use borrow.Author.Tests.{le-ltb}
 use lib.ListN.{length}
-use Rattle.driver.specs.declared.Answer.the-variants.{Written}
+use Rattle.ground.specs.declared.Outcome.the-variants.{Written}
+use Rattle.ground.specs.Outcomes.{outcomeNumber}
 use Rattle.driver.specs.Streams.{writeStream, readStream, commandStream, decoded}
-use Rattle.driver.specs.Refusals.{answerNumber, outsideMemory, miscounted, writeAnswer, readAnswer, decodeAnswer}
+use Rattle.driver.specs.Refusals.{outsideMemory, miscounted, writeAnswer, readAnswer, decodeAnswer}
 use Rattle.driver.proofs.StreamsLaws.{write-length, read-length, commands-length}
 
 -- (c) N=1 takes 29 samples, N=32 takes 277
@@ -28,7 +29,7 @@ pub write-at-31 : (nibble room : ℕ) → nibble ≤ 15 → 29 ≤ room → writ
 unfolding writeAnswer outsideMemory writeStream
 write-at-31 nibble room n h = simp (le-ltb 15 nibble n, le-ltb room 29 h)
 
-pub write-past-31 : (nibble other room : ℕ) → answerNumber (writeAnswer 31 (nibble ∷ other ∷ []) room) ≡ 22
+pub write-past-31 : (nibble other room : ℕ) → outcomeNumber (writeAnswer 31 (nibble ∷ other ∷ []) room) ≡ 22
 unfolding writeAnswer outsideMemory
 write-past-31 nibble other room = refl
 
@@ -36,7 +37,7 @@ pub read-at-31 : (room : ℕ) → 29 ≤ room → readAnswer 31 1 room ≡ Writt
 unfolding readAnswer outsideMemory readStream
 read-at-31 room h = simp (le-ltb room 29 h)
 
-pub read-past-31 : (room : ℕ) → answerNumber (readAnswer 31 2 room) ≡ 22
+pub read-past-31 : (room : ℕ) → outcomeNumber (readAnswer 31 2 room) ≡ 22
 unfolding readAnswer outsideMemory
 read-past-31 room = refl
 

@@ -3,110 +3,106 @@
 // why it wrote none. Assumes nothing.
 ghost use mathlib.Core.Path.{_≡_};
 ghost use lib.ListN.{length};
+ghost use Rattle.ground.specs.Outcomes.{ComesTo};
 ghost use Rattle.driver.specs.Streams.{writeStream, readStream, commandStream, decoded};
-ghost use Rattle.driver.specs.Refusals.{Does, writeAnswer, readAnswer, commandAnswer, decodeAnswer};
+ghost use Rattle.driver.specs.Refusals.{writeAnswer, readAnswer, commandAnswer, decodeAnswer};
 
 mod faults; // faults.rt: what a call is refused for
 mod notes; // notes.rt: noted bits made nibbles
 mod stream; // stream.rt: streams written into a buffer
 
+use ground::Outcome;
 use ground::Refusal;
-
-// What a call comes to: the number of bytes written, or why nothing was.
-pub enum Answer {
-    Written(usize),
-    Refused(Refusal),
-}
 
 // The stream that writes nibbles from the address `first` on: 21 bytes, and 8 for each nibble. Refused, in this order:
 // no nibble; addresses outside the 32; a nibble above 15, with its place; a buffer too short.
-pub fn write(first: usize, nibbles: &[u8], out: &mut [u8]) -> Answer
-    ensures { λ r. ⌜ Does
+pub fn write(first: usize, nibbles: &[u8], out: &mut [u8]) -> Outcome
+    ensures { λ r. ⌜ ComesTo
         (writeAnswer first (now (nibbles .entry)) (length (now (out .entry))))
         (writeStream first (now (nibbles .entry)))
         (now (out .entry)) r (now (out .exit)) ⌝ }
 {
     if nibbles.len() == 0 {
-        return Answer::Refused(Refusal::NothingAsked);
+        return Outcome::Refused(Refusal::NothingAsked);
     }
     if faults::outside(first, nibbles.len()) {
-        return Answer::Refused(Refusal::OutOfRange);
+        return Outcome::Refused(Refusal::OutOfRange);
     }
     let place = ground::first_above(nibbles, 15);
     if place < nibbles.len() {
-        return Answer::Refused(Refusal::NibbleAbove(place));
+        return Outcome::Refused(Refusal::NibbleAbove(place));
     }
     if out.len() < 21 + 8 * nibbles.len() {
-        return Answer::Refused(Refusal::OutputShort);
+        return Outcome::Refused(Refusal::OutputShort);
     }
     let sent = stream::whole_write(out, first as u8, nibbles);
-    Answer::Written(sent)
+    Outcome::Written(sent)
 }
 
 // The stream that reads `count` nibbles from the address `first` on: 21 bytes, and 8 for each nibble. Refused, in this
 // order: no nibble; addresses outside the 32; a buffer too short.
-pub fn read(first: usize, count: usize, out: &mut [u8]) -> Answer
-    ensures { λ r. ⌜ Does
+pub fn read(first: usize, count: usize, out: &mut [u8]) -> Outcome
+    ensures { λ r. ⌜ ComesTo
         (readAnswer first count (length (now (out .entry))))
         (readStream first count)
         (now (out .entry)) r (now (out .exit)) ⌝ }
 {
     if count == 0 {
-        return Answer::Refused(Refusal::NothingAsked);
+        return Outcome::Refused(Refusal::NothingAsked);
     }
     if faults::outside(first, count) {
-        return Answer::Refused(Refusal::OutOfRange);
+        return Outcome::Refused(Refusal::OutOfRange);
     }
     if out.len() < 21 + 8 * count {
-        return Answer::Refused(Refusal::OutputShort);
+        return Outcome::Refused(Refusal::OutputShort);
     }
     let asked = stream::whole_read(out, first as u8, count);
-    Answer::Written(asked)
+    Outcome::Written(asked)
 }
 
 // The stream that gives commands, each by the byte of its upper eight bits: 9 bytes, and 18 for each command. Refused,
 // in this order: no command; more than 32; an undefined one, with its place; a buffer too short.
-pub fn commands(codes: &[u8], out: &mut [u8]) -> Answer
-    ensures { λ r. ⌜ Does
+pub fn commands(codes: &[u8], out: &mut [u8]) -> Outcome
+    ensures { λ r. ⌜ ComesTo
         (commandAnswer (now (codes .entry)) (length (now (out .entry))))
         (commandStream (now (codes .entry)))
         (now (out .entry)) r (now (out .exit)) ⌝ }
 {
     if codes.len() == 0 {
-        return Answer::Refused(Refusal::NothingAsked);
+        return Outcome::Refused(Refusal::NothingAsked);
     }
     if 32 < codes.len() {
-        return Answer::Refused(Refusal::OutOfRange);
+        return Outcome::Refused(Refusal::OutOfRange);
     }
     let place = commands::first_undefined(codes);
     if place < codes.len() {
-        return Answer::Refused(Refusal::UndefinedCommand(place));
+        return Outcome::Refused(Refusal::UndefinedCommand(place));
     }
     if out.len() < 9 + 18 * codes.len() {
-        return Answer::Refused(Refusal::OutputShort);
+        return Outcome::Refused(Refusal::OutputShort);
     }
     let given = stream::whole_commands(out, codes);
-    Answer::Written(given)
+    Outcome::Written(given)
 }
 
 // The nibbles that a read noted, a byte for each: four noted bits, D0 first, make one. Refused, in this order: a number
 // of noted bytes that is none of 4, 8 .. 128; a noted byte above 1, with its place; a buffer too short.
-pub fn decode(noted: &[u8], out: &mut [u8]) -> Answer
-    ensures { λ r. ⌜ Does
+pub fn decode(noted: &[u8], out: &mut [u8]) -> Outcome
+    ensures { λ r. ⌜ ComesTo
         (decodeAnswer (now (noted .entry)) (length (now (out .entry))))
         (decoded (now (noted .entry)))
         (now (out .entry)) r (now (out .exit)) ⌝ }
 {
     if faults::miscounts(noted.len()) {
-        return Answer::Refused(Refusal::NotedCount);
+        return Outcome::Refused(Refusal::NotedCount);
     }
     let place = ground::first_above(noted, 1);
     if place < noted.len() {
-        return Answer::Refused(Refusal::NotedAbove(place));
+        return Outcome::Refused(Refusal::NotedAbove(place));
     }
     if out.len() < noted.len() / 4 {
-        return Answer::Refused(Refusal::OutputShort);
+        return Outcome::Refused(Refusal::OutputShort);
     }
     let made = notes::put_decoded(out, noted);
-    Answer::Written(made)
+    Outcome::Written(made)
 }

@@ -1,5 +1,6 @@
 pub mod Bits
 pub mod Determined
+pub mod Outcomes
 pub mod Places
 pub mod Refusals
 pub mod Values

@@ -68,6 +68,12 @@ impl Refusal {
     }
 }
 
+// What a call that writes bytes comes to: how many it wrote at the start of the buffer lent, or why it wrote none.
+pub enum Outcome {
+    Written(usize),
+    Refused(Refusal),
+}
+
 // The lowest place of a value above a limit; the number of values where there is none.
 pub fn first_above(values: &[u8], limit: u8) -> usize
     ensures { λ r. ⌜ r ≡ lowest (ltb limit) (now (values .entry)) ⌝ }

@@ -6,8 +6,8 @@ use native.Mathlib.Omega.{arith}
 use borrow.Author.Needs.{needs}
 use borrow.Author.Tests.{lt-ltb, le-ltb, eq-eqb, ne-eqb}
 use lib.ListN.{length}
+use Rattle.ground.proofs.OutcomesLaws.{refuses, succeeds}
 use Rattle.driver.specs.Refusals.{commandAnswer, tooMany}
-use Rattle.driver.proofs.RefusalsLaws.{refuses, succeeds}
 use Rattle.driver.proofs.StreamsLaws.{commands-length}
 use Rattle.driver.proofs.commands.Statement.{statement}
 use Rattle.driver.proofs.commands.Tie as tie

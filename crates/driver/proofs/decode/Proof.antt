@@ -6,8 +6,9 @@ use native.Mathlib.Omega.{arith}
 use borrow.Author.Needs.{needs}
 use borrow.Author.Tests.{lt-ltb, le-ltb}
 use lib.ListN.{length}
+use Rattle.ground.proofs.OutcomesLaws.{refuses, succeeds}
 use Rattle.driver.specs.Refusals.{decodeAnswer}
-use Rattle.driver.proofs.RefusalsLaws.{in-fours, refuses, succeeds}
+use Rattle.driver.proofs.RefusalsLaws.{in-fours}
 use Rattle.driver.proofs.StreamsLaws.{decoded-length}
 use Rattle.driver.proofs.decode.Statement.{statement}
 use Rattle.driver.proofs.decode.Tie as tie

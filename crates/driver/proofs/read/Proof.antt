@@ -6,8 +6,9 @@ use native.Mathlib.Omega.{arith}
 use borrow.Author.Needs.{needs}
 use borrow.Author.Tests.{lt-ltb, le-ltb, eq-eqb, ne-eqb}
 use lib.ListN.{length}
+use Rattle.ground.proofs.OutcomesLaws.{refuses, succeeds}
 use Rattle.driver.specs.Refusals.{readAnswer}
-use Rattle.driver.proofs.RefusalsLaws.{inside, refuses, succeeds}
+use Rattle.driver.proofs.RefusalsLaws.{inside}
 use Rattle.driver.proofs.StreamsLaws.{read-length}
 use Rattle.driver.proofs.read.Statement.{statement}
 use Rattle.driver.proofs.read.Tie as tie
