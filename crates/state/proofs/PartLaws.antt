@@ -13,7 +13,7 @@ use Rattle.rules.specs.Settings.{countersTo}
 use Rattle.chip.specs.declared.Port.{Port}
 use Rattle.chip.specs.declared.Chip.{Chip}
 use Rattle.state.specs.Record.{frameBytes, counterBytes, recordValid, recordOf, tailOf, chipOf}
-use Rattle.state.specs.Answers.{portOver, countersOver}
+use Rattle.state.specs.Answers.{writtenAs, portOver, countersOver}
 use Rattle.state.proofs.TripLaws.{valid-has, trip}
 use Rattle.state.proofs.ChipLaws.{valid-chip}
 
@@ -50,7 +50,7 @@ module _ (b : List ℕ) (v : recordValid b ≡ true) where
   -- A port written over it, of 32 bytes of memory.
   pub port-part : (port : Port) → length (port .memory) ≡ 32
       → portOver port b ≡ recordOf (record { port = port; settings = chipOf b .settings })
-  unfolding portOver recordOf
+  unfolding portOver writtenAs recordOf
   port-part port h =
       let long = valid-has b v .long in
       rw (le-ltb (length b) 64 (omega (arith, long)))
@@ -60,7 +60,7 @@ module _ (b : List ℕ) (v : recordValid b ≡ true) where
   -- Counters written over it.
   pub counters-part : (counters : Counters)
       → countersOver counters b ≡ recordOf (record { port = chipOf b .port; settings = countersTo counters (chipOf b .settings) })
-  unfolding countersOver recordOf
+  unfolding countersOver writtenAs recordOf
   counters-part counters =
       let long = valid-has b v .long in
       rw (le-ltb (length b) 64 (omega (arith, long)))

@@ -14,6 +14,8 @@ use lib.Seq.{paste, length-paste, sets, sets-eq, drop-cons}
 use borrow.Author.Tests.{ltb-true, ltb-false, le-leb, lt-leb, eq-eqb, ne-eqb}
 use Rattle.ground.specs.Bits.{bitNumber}
 use Rattle.ground.specs.declared.Refusal.the-variants.{OutputShort}
+use Rattle.ground.specs.declared.Outcome.the-variants.{Written, Refused}
+use Rattle.ground.specs.Outcomes.{outcomeNumber}
 use Rattle.ground.specs.Written.{over, first32}
 use Rattle.ground.proofs.WrittenLaws.{over-paste, length-over, over-over}
 use Rattle.rules.specs.declared.Settings.{Settings}
@@ -26,9 +28,8 @@ use Rattle.state.specs.declared.LineRead.the-variants.{Does, NoLine}
 use Rattle.state.specs.declared.SettingsRead.the-variants.{Set, NoSettings}
 use Rattle.state.specs.declared.Reading.{Reading}
 use Rattle.state.specs.declared.Verdict.the-variants as verdict
-use Rattle.state.specs.declared.Written.the-variants as written
 use Rattle.state.specs.FrameCodes.{lineRead}
-use Rattle.state.specs.Answers.{verdictNumber, settingsNumber, writtenNumber, settingsRead, settingsIn, malformed, readOf, writtenAs}
+use Rattle.state.specs.Answers.{verdictNumber, settingsNumber, settingsRead, settingsIn, malformed, readOf, writtenAs}
 use Rattle.state.specs.Record.{frameBytes, counterBytes, settingsBytes, upTo, maxima, mostBits, byte, valueIn, framesRight, bytesFit, recordValid, settingsRight, settingsOf, phaseAt, chipOf, tailOf, recordOf}
 use Rattle.state.proofs.RangesLaws.{and-left, upTo-at}
 use Rattle.state.proofs.CodesLaws.{phase-there, line-there}
@@ -269,10 +270,10 @@ module _ (b : List ℕ) where
       by true = refl
       by false = refl
 
-  pub written-number : (count : ℕ) → writtenNumber (writtenAs count b) ≡ cond (ltb (length b) 64) 25 count
+  pub written-number : (count : ℕ) → outcomeNumber (writtenAs count b) ≡ cond (ltb (length b) 64) 25 count
   unfolding writtenAs
   written-number count = by (ltb (length b) 64)
     where
-      by : (t : Bool) → writtenNumber (cond t (written.Refused OutputShort) (written.Bytes count)) ≡ cond t 25 count
+      by : (t : Bool) → outcomeNumber (cond t (Refused OutputShort) (Written count)) ≡ cond t 25 count
       by true = refl
       by false = refl

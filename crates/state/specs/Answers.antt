@@ -2,12 +2,14 @@
 -- Assumes nothing.
 use Prim.Native.Nat.{ℕ}
 use mathlib.Core.Bool.{cond}
-use mathlib.Core.List.{List, _++_}
+use mathlib.Core.List.{List, [], _∷_, _++_}
 use lib.Dec.{ltb}
 use lib.ListN.{length}
 use Rattle.ground.specs.declared.Refusal.the-variants.{OutputShort, Malformed}
 use Rattle.ground.specs.Refusals.{refusalNumber}
-use Rattle.ground.specs.Written.{over}
+use Rattle.ground.specs.declared.Outcome.{Outcome}
+use Rattle.ground.specs.declared.Outcome.the-variants.{Written, Refused}
+use Rattle.ground.specs.Outcomes.{left, leftFrom, refusedIf, ladder}
 use Rattle.clock.specs.declared.Counters.{Counters}
 use Rattle.chip.specs.declared.Port.{Port}
 use Rattle.chip.specs.declared.Chip.{Chip}
@@ -17,11 +19,9 @@ use Rattle.state.specs.declared.SettingsRead.the-variants.{Set, NoSettin
 use Rattle.state.specs.declared.Reading.{Reading}
 use Rattle.state.specs.declared.Verdict.{Verdict}
 use Rattle.state.specs.declared.Verdict.the-variants as verdict
-use Rattle.state.specs.declared.Written.{Written}
-use Rattle.state.specs.declared.Written.the-variants as written
 use Rattle.state.specs.Record.{frameBytes, counterBytes, settingsRight, settingsOf, recordValid, recordOf, chipOf}
 
--- The paper's numbers: 0 for a valid record and for its settings, the count for bytes written, else the refusal's.
+-- The paper's numbers: 0 for a valid record and for its settings, else the refusal's.
 abbrev pub verdictNumber : Verdict → ℕ
 verdictNumber verdict.Valid = 0
 verdictNumber verdict.Malformed = refusalNumber Malformed
@@ -29,10 +29,6 @@ verdictNumber verdict.Malformed = refusalNumber Malformed
 abbrev pub settingsNumber : SettingsRead → ℕ
 settingsNumber (Set settings) = 0
 settingsNumber NoSettings = refusalNumber Malformed
-
-abbrev pub writtenNumber : Written → ℕ
-writtenNumber (written.Bytes count) = count
-writtenNumber (written.Refused refusal) = refusalNumber refusal
 
 -- The settings' bytes by themselves, where they are right.
 unfoldable pub settingsRead : List ℕ → SettingsRead
@@ -50,17 +46,17 @@ unfoldable pub readOf : List ℕ → Reading
 readOf b = cond (recordValid b) (record { answer = verdict.Valid; chip = chipOf b }) malformed
 
 -- 25 where the buffer is shorter than a record; else the count of the bytes written.
-unfoldable pub writtenAs : ℕ → List ℕ → Written
-writtenAs count buffer = cond (ltb (length buffer) 64) (written.Refused OutputShort) (written.Bytes count)
+unfoldable pub writtenAs : ℕ → List ℕ → Outcome
+writtenAs count buffer = ladder Refused (refusedIf (ltb (length buffer) 64) OutputShort ∷ []) (Written count)
 
 -- The 64 bytes over the start of a buffer; one that is too short stays as it was.
 unfoldable pub writtenOver : Chip → List ℕ → List ℕ
-writtenOver chip buffer = cond (ltb (length buffer) 64) buffer (over buffer 0 (recordOf chip))
+writtenOver chip buffer = left (writtenAs 64 buffer) (recordOf chip) buffer
 
 -- A part of a record over a buffer that holds one, alike: the port's 40 bytes over its start, and the counters' 6 from
 -- byte 51 on.
 unfoldable pub portOver : Port → List ℕ → List ℕ
-portOver port buffer = cond (ltb (length buffer) 64) buffer (over buffer 0 (port .memory ++ frameBytes port))
+portOver port buffer = left (writtenAs 40 buffer) (port .memory ++ frameBytes port) buffer
 
 unfoldable pub countersOver : Counters → List ℕ → List ℕ
-countersOver counters buffer = cond (ltb (length buffer) 64) buffer (over buffer 51 (counterBytes counters))
+countersOver counters buffer = leftFrom 51 (writtenAs 6 buffer) (counterBytes counters) buffer

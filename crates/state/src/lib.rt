@@ -27,6 +27,7 @@ use commands::Commons;
 use frames::Levels;
 use frames::Line;
 use frames::Phase;
+use ground::Outcome;
 use ground::Refusal;
 use rules::Base;
 use rules::Irq;
@@ -89,12 +90,6 @@ pub enum Verdict {
 pub struct Reading {
     pub chip: Chip,
     pub answer: Verdict,
-}
-
-// How many bytes were written.
-pub enum Written {
-    Bytes(usize),
-    Refused(Refusal),
 }
 
 // Byte 33, with the bytes that a phase carries.
@@ -689,11 +684,11 @@ fn put_settings(settings: Settings, out: &mut [u8])
 }
 
 // The chip's 64 bytes over the start of a buffer.
-pub fn write(chip: Chip, out: &mut [u8]) -> Written
+pub fn write(chip: Chip, out: &mut [u8]) -> Outcome
     ensures { λ r. ⌜ (r ≡ writtenAs 64 (now (out .entry))) × (now (out .exit) ≡ writtenOver chip (now (out .entry))) ⌝ }
 {
     if out.len() < 64 {
-        return Written::Refused(Refusal::OutputShort);
+        return Outcome::Refused(Refusal::OutputShort);
     }
     let port = chip.port;
     let memory = port.memory;
@@ -701,29 +696,29 @@ pub fn write(chip: Chip, out: &mut [u8]) -> Written
     put_memory(memory, out);
     put_frame(port, out);
     put_settings(settings, out);
-    Written::Bytes(64)
+    Outcome::Written(64)
 }
 
 // Of a record that a buffer holds, the port's bytes alone, 0 to 39: for a chip whose settings are as they were.
-pub fn write_port(port: Port, out: &mut [u8]) -> Written
+pub fn write_port(port: Port, out: &mut [u8]) -> Outcome
     ensures { λ r. ⌜ (r ≡ writtenAs 40 (now (out .entry))) × (now (out .exit) ≡ portOver port (now (out .entry))) ⌝ }
 {
     if out.len() < 64 {
-        return Written::Refused(Refusal::OutputShort);
+        return Outcome::Refused(Refusal::OutputShort);
     }
     let memory = port.memory;
     put_memory(memory, out);
     put_frame(port, out);
-    Written::Bytes(40)
+    Outcome::Written(40)
 }
 
 // Of a record that a buffer holds, the counters' bytes alone, 51 to 56: for a chip of which nothing else has changed.
-pub fn write_counters(counters: Counters, out: &mut [u8]) -> Written
+pub fn write_counters(counters: Counters, out: &mut [u8]) -> Outcome
     ensures { λ r. ⌜ (r ≡ writtenAs 6 (now (out .entry))) × (now (out .exit) ≡ countersOver counters (now (out .entry))) ⌝ }
 {
     if out.len() < 64 {
-        return Written::Refused(Refusal::OutputShort);
+        return Outcome::Refused(Refusal::OutputShort);
     }
     put_counters(counters, out);
-    Written::Bytes(6)
+    Outcome::Written(6)
 }
