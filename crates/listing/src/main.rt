@@ -2,7 +2,7 @@
 // many already. The output has the room for any input that is not too long. Assumes nothing beyond `libc`.
 ghost use mathlib.Core.Path.{_≡_};
 ghost use lib.ListN.{length};
-use transcript::Listed;
+use ground::Outcome;
 
 fn in_buffer() -> [u8; 65537]
     ensures { λ r. ⌜ 65537 ≡ length r ⌝ }
@@ -19,9 +19,9 @@ fn main() {
     let count = io::read_full(0, &mut input);
     let mut out = out_buffer();
     match transcript::list(&input[..count], &mut out) {
-        Listed::Written(written) => {
+        Outcome::Written(written) => {
             io::write_all(1, &out[..written]);
         }
-        Listed::Refused(_) => {}
+        Outcome::Refused(_) => {}
     }
 }

@@ -2,7 +2,7 @@
 // nothing beyond `libc`.
 ghost use mathlib.Core.Path.{_≡_};
 ghost use lib.ListN.{length};
-use transcript::Listed;
+use ground::Outcome;
 
 fn out_buffer() -> [u8; 1572880] {
     [0; 1572880]
@@ -18,8 +18,8 @@ fn too_long() -> [u8; 65537]
 fn listed_as(input: &[u8], expected: &[u8]) -> bool {
     let mut out = out_buffer();
     match transcript::list(input, &mut out) {
-        Listed::Written(written) => check::same(&out[..written], expected),
-        Listed::Refused(_) => false,
+        Outcome::Written(written) => check::same(&out[..written], expected),
+        Outcome::Refused(_) => false,
     }
 }
 

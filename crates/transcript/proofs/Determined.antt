@@ -11,4 +11,4 @@ pub room-determined : Determined 0 room-kinds.ps room-kinds.r room-reads.Post
 room-determined κs args x y end end' p q = p ∙ sym q
 
 pub list-determined : DeterminedWith 2 list-kinds.ps list-kinds.r (λ κs end. end .1 .0 .now) list-reads.Post
-list-determined κs args x y end end' p q = (p .answer ∙ sym (q .answer), p .buffer ∙ sym (q .buffer))
+list-determined κs args x y end end' p q = (p .answer ∙ sym (q .answer), p .bytes ∙ sym (q .bytes))

@@ -10,6 +10,9 @@ use lib.Dec.{ltb, eqb}
 use lib.ListN.{length, take-append-drop, length-append}
 use borrow.Author.Tests.{ltb-false, eq-eqb, ne-eqb}
 use Rattle.ground.specs.declared.Refusal.the-variants.{OutputShort}
+use Rattle.ground.specs.declared.Outcome.{Outcome}
+use Rattle.ground.specs.declared.Outcome.the-variants.{Written, Refused}
+use Rattle.ground.specs.Outcomes.{ComesTo}
 use Rattle.ground.specs.Written.{Wrote}
 use Rattle.ground.proofs.ChoiceLaws.{either, by-cases}
 use Rattle.ground.proofs.WrittenLaws.{wrote-then}
@@ -20,9 +23,7 @@ use Rattle.chip.specs.Chip.{stepped, ticked}
 use Rattle.chip.specs.PowerOn.{emptyChip}
 use Rattle.transcript.specs.declared.Class.{Class}
 use Rattle.transcript.specs.declared.Class.the-variants.{Sample, Tick, Skipped, Bad}
-use Rattle.transcript.specs.declared.Listed.{Listed}
-use Rattle.transcript.specs.declared.Listed.the-variants.{Written, Refused}
-use Rattle.transcript.specs.Listing.{ListedAs, lists, listFrom, listing, roomFor}
+use Rattle.transcript.specs.Listing.{listAnswer, lists, listFrom, listing, roomFor}
 use Rattle.transcript.specs.Listing.{space, newline, field, line, answerLine, bad, badLine, end, endLine, classOf}
 use Rattle.transcript.proofs.DecimalLaws.{length-field}
 
@@ -86,9 +87,10 @@ listing-fits input =
     (λ e. omega (arith, ltb-false 65536 (length input) e, length-listFrom emptyChip 0 0 0 input))
 
 -- so what was written is within the buffer
-pub written-within : {input before after : List ℕ} {result : Listed} (count : ℕ) → ListedAs input before after result
-    → result ≡ Written count → count ≤ length before
-written-within {input} {before} {after} {result} count listed is =
+pub written-within : (input : List ℕ) {before after : List ℕ} {result : Outcome} (count : ℕ)
+    → ComesTo (listAnswer input (length before)) (listing input) before result after → result ≡ Written count → count ≤ length before
+unfolding listAnswer
+written-within input {before} {after} {result} count listed is =
     by (ltb (length before) (roomFor (length input))) refl (sym is ∙ listed .answer)
   where
     by : (short : Bool) → ltb (length before) (roomFor (length input)) ≡ short

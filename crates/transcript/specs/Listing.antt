@@ -1,13 +1,12 @@
 -- 01 "The listing": what each byte of the input is, the lines, and the output as a whole. Assumes nothing.
 use Prim.Native.Nat.{ℕ, zero, suc, _+_, _-_, _*_, _/_, _%_, min}
-use mathlib.Core.Path.{_≡_}
 use mathlib.Core.Bool.{cond, _&&_}
 use mathlib.Core.List.{List, [], _∷_, _++_}
 use lib.Dec.{ltb, leb, eqb}
 use lib.ListN.{length}
 use Rattle.ground.specs.declared.Refusal.the-variants.{OutputShort}
-use Rattle.ground.specs.Refusals.{refusalNumber}
-use Rattle.ground.specs.Written.{over}
+use Rattle.ground.specs.declared.Outcome.{Outcome}
+use Rattle.ground.specs.Outcomes.{refusedIf, answered}
 use Rattle.frames.specs.declared.Answer.{Answer}
 use Rattle.frames.specs.Answers.{answerNumber, firstDetail, secondDetail}
 use Rattle.chip.specs.declared.Chip.{Chip}
@@ -15,8 +14,6 @@ use Rattle.chip.specs.Chip.{stepped, ticked}
 use Rattle.chip.specs.PowerOn.{emptyChip}
 use Rattle.transcript.specs.declared.Class.{Class}
 use Rattle.transcript.specs.declared.Class.the-variants.{Sample, Tick, Skipped, Bad}
-use Rattle.transcript.specs.declared.Listed.{Listed}
-use Rattle.transcript.specs.declared.Listed.the-variants.{Written, Refused}
 
 -- Bytes by their ASCII codes: `0` is 48, `9` 57, `a` 97, `f` 102, `t` 116, a space 32, a newline 10.
 abbrev pub space : ℕ
@@ -96,14 +93,6 @@ listing input = cond (ltb 65536 (length input)) long (listFrom emptyChip 0 0 0 i
 abbrev pub roomFor : ℕ → ℕ
 roomFor count = 24 * min count 65536 + 16
 
--- The paper's number for a result: 0 for a listing, else the refusal's.
-abbrev pub listedNumber : Listed → ℕ
-listedNumber (Written count) = 0
-listedNumber (Refused refusal) = refusalNumber refusal
-
--- What `list` makes of an input and a buffer: 25 where the buffer is shorter than the room, and it stays as it was; else
--- the listing's bytes at its start, their number as the result, and no byte after them changed.
-pub record ListedAs (input before after : List ℕ) (result : Listed) : Type 0 where
-  pub answer : result
-      ≡ cond (ltb (length before) (roomFor (length input))) (Refused OutputShort) (Written (length (listing input)))
-  pub buffer : after ≡ cond (ltb (length before) (roomFor (length input))) before (over before 0 (listing input))
+-- What `list` answers: 25 where the buffer is shorter than the room, else the number of the listing's bytes.
+unfoldable pub listAnswer : List ℕ → ℕ → Outcome
+listAnswer input room = answered (refusedIf (ltb room (roomFor (length input))) OutputShort ∷ []) (listing input)

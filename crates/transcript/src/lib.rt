@@ -4,12 +4,14 @@ ghost use mathlib.Core.Bool.{_&&_};
 ghost use Prim.Native.Nat.{_+_, _*_, _≤_, _<_};
 ghost use lib.Dec.{leb};
 ghost use lib.ListN.{length};
+ghost use Rattle.ground.specs.Outcomes.{ComesTo};
 ghost use Rattle.ground.specs.Written.{Wrote};
 ghost use Rattle.chip.specs.PowerOn.{emptyChip};
 ghost use Rattle.transcript.specs.Listing.{classOf, decimal, field, line, answerLine, badLine, endLine, long};
-ghost use Rattle.transcript.specs.Listing.{listFrom, roomFor, ListedAs};
+ghost use Rattle.transcript.specs.Listing.{listFrom, listing, roomFor, listAnswer};
 use chip::Chip;
 use frames::Answer;
+use ground::Outcome;
 use ground::Refusal;
 
 // What a byte of the input is.
@@ -18,12 +20,6 @@ enum Class {
     Tick,
     Skipped,
     Bad,
-}
-
-// Whether an input was listed: how many bytes were written, or why none was.
-pub enum Listed {
-    Written(usize),
-    Refused(Refusal),
 }
 
 fn between(low: u8, byte: u8, high: u8) -> bool
@@ -193,14 +189,17 @@ pub fn room(count: usize) -> usize
 }
 
 // The listing of an input, at the start of `out`, which has at least the room for it.
-pub fn list(input: &[u8], out: &mut [u8]) -> Listed
-    ensures { λ r. ⌜ ListedAs (now (input .entry)) (now (out .entry)) (now (out .exit)) r ⌝ }
+pub fn list(input: &[u8], out: &mut [u8]) -> Outcome
+    ensures { λ r. ⌜ ComesTo
+        (listAnswer (now (input .entry)) (length (now (out .entry))))
+        (listing (now (input .entry)))
+        (now (out .entry)) r (now (out .exit)) ⌝ }
 {
     if out.len() < room(input.len()) {
-        return Listed::Refused(Refusal::OutputShort);
+        return Outcome::Refused(Refusal::OutputShort);
     }
     if 65536 < input.len() {
-        return Listed::Written(put_long(out));
+        return Outcome::Written(put_long(out));
     }
-    Listed::Written(put_lines(input, out))
+    Outcome::Written(put_lines(input, out))
 }

@@ -37,12 +37,12 @@ enum-known-written c = search needs
 array-share-prefix-out : tie.Need-array-share-prefix-out
 array-share-prefix-out c =
     let at-list : _ = c .before .before .before .before in
-    omega (arith, written-within _ (at-list .list .ensures) (c .before .written .given .1))
+    omega (arith, written-within _ _ (at-list .list .ensures) (c .before .written .given .1))
 
 slice-aggregate-write-all : tie.Need-slice-aggregate-write-all
 slice-aggregate-write-all c =
     let at-list : _ = c .before .before .before .before .before in
-    let fits : _ = written-within _ (at-list .list .ensures) (c .before .before .written .given .1) in
+    let fits : _ = written-within _ _ (at-list .list .ensures) (c .before .before .written .given .1) in
     sym (length-take-le _ (at-list .list .last .1 .0) (omega arith))
 
 write-all-requires : tie.Need-write-all-requires

@@ -21,13 +21,13 @@ enum-known-written c = search needs
 
 array-share-prefix-out : tie.Need-array-share-prefix-out
 array-share-prefix-out c =
-    let within : _ = written-within _ (c .before .before .before .before .list .ensures) (c .before .written .given .1) in
+    let within : _ = written-within _ _ (c .before .before .before .before .list .ensures) (c .before .written .given .1) in
     omega arith
 
 slice-aggregate-same : tie.Need-slice-aggregate-same
 slice-aggregate-same c =
     let at-list : _ = c .before .before .before .before .before in
-    let within : _ = written-within _ (at-list .list .ensures) (c .before .before .written .given .1) in
+    let within : _ = written-within _ _ (at-list .list .ensures) (c .before .before .written .given .1) in
     sym (length-take-le _ (at-list .list .last .1 .0) (omega arith))
 
 same-requires : tie.Need-same-requires

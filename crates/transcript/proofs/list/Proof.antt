@@ -6,29 +6,28 @@ use native.Mathlib.Omega.{arith}
 use borrow.Author.Tests.{lt-ltb, le-ltb}
 use lib.ListN.{length}
 use Rattle.ground.specs.declared.Refusal.the-variants.{OutputShort}
+use Rattle.ground.specs.declared.Outcome.the-variants.{Written, Refused}
+use Rattle.ground.specs.Outcomes.{ComesTo}
 use Rattle.ground.specs.Written.{over, Wrote}
+use Rattle.ground.proofs.OutcomesLaws.{refuses, succeeds}
 use Rattle.chip.specs.PowerOn.{emptyChip}
-use Rattle.transcript.specs.declared.Listed.the-variants.{Written, Refused}
-use Rattle.transcript.specs.Listing.{long, listFrom, listing, roomFor, ListedAs}
+use Rattle.transcript.specs.Listing.{long, listFrom, listing, roomFor, listAnswer}
 use borrow.Author.Needs.{needs}
 use Rattle.transcript.proofs.list.Statement.{statement}
 use Rattle.transcript.proofs.list.Tie as tie
 
 too-short : (input buffer : List ℕ) → length buffer < roomFor (length input)
-    → ListedAs input buffer buffer (Refused OutputShort)
-too-short input buffer h =
-    let short : _ = lt-ltb (length buffer) (roomFor (length input)) h in
-    record { answer = rw short; buffer = rw short }
+    → ComesTo (listAnswer input (length buffer)) (listing input) buffer (Refused OutputShort) buffer
+unfolding listAnswer
+too-short input buffer h = refuses (simp (lt-ltb (length buffer) (roomFor (length input)) h))
 
 written : (input text : List ℕ) {before after : List ℕ} {count : ℕ}
-    → roomFor (length input) ≤ length before → listing input ≡ text → Wrote before 0 text after count → ListedAs input before after (Written count)
+    → roomFor (length input) ≤ length before → listing input ≡ text → Wrote before 0 text after count
+    → ComesTo (listAnswer input (length before)) (listing input) before (Written count) after
+unfolding listAnswer
 written input text {before} {after} {count} h e w =
-    let enough : _ = le-ltb (length before) (roomFor (length input)) h in
-    let all : count ≡ length (listing input) = omega (arith, w .cursor, ap length e) in
-    record {
-      answer = rw enough (ap (λ (n : ℕ). Written n) all);
-      buffer = rw enough (w .buffer ∙ ap (over before 0) (sym e));
-    }
+    succeeds (simp (le-ltb (length before) (roomFor (length input)) h)) (omega (arith, w .cursor, ap length e))
+    (w .buffer ∙ ap (over before 0) (sym e))
 
 only-long : (input : List ℕ) → 65536 < length input → listing input ≡ long
 unfolding listing
