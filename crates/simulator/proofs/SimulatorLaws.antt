@@ -33,7 +33,7 @@ use Rattle.state.specs.declared.SettingsRead.{SettingsRead}
 use Rattle.state.specs.declared.SettingsRead.the-variants.{Set, NoSettings}
 use Rattle.state.specs.declared.Verdict.the-variants as verdict
 use Rattle.state.specs.Record.{byte, recordValid, recordOf, chipOf}
-use Rattle.state.specs.Answers.{malformed, readOf, settingsIn, writtenOver, portOver, countersOver}
+use Rattle.state.specs.Answers.{malformed, readOf, settingsIn, writtenAs, writtenOver, portOver, countersOver}
 use Rattle.state.proofs.RecordLaws.{settings-none, settings-found}
 use Rattle.state.proofs.CodesLaws.{line-again}
 use Rattle.state.proofs.TripLaws.{valid-has, within}
@@ -76,7 +76,7 @@ module _ (b : List ℕ) (found : SettingsRead) (e : found ≡ settingsIn b) wher
 -- ---- a valid chip written over a record of its length leaves its record
 
 written-over : (b : List ℕ) (c : Chip) → length b ≡ 64 → Valid c → writtenOver c b ≡ recordOf c
-unfolding writtenOver
+unfolding writtenOver writtenAs
 written-over b c long v =
     let whole : length (recordOf c) ≡ 64 = valid-has (recordOf c) (chip-valid c v) .long in
     rw (le-ltb (length b) 64 (omega (arith, long)))

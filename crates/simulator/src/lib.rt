@@ -6,13 +6,22 @@ ghost use Prim.Native.Nat.{_+_, _*_, _≤_};
 ghost use lib.Bits.{bitAnd};
 ghost use lib.ListN.{length, take};
 ghost use Rattle.ground.specs.Bits.{bitNumber};
+ghost use Rattle.ground.specs.Refusals.{refusalNumber};
 ghost use Rattle.ground.specs.Written.{over};
 ghost use Rattle.pins.specs.Pins.{irqLow, bzHigh, partnerHigh};
 ghost use Rattle.simulator.specs.Simulator.{stepReturns, stepBytes, advanceReturns, advanceBytes};
 ghost use Rattle.simulator.specs.Simulator.{pinsReturns, pinsBytes};
+use ground::Refusal;
 use rules::Settings;
 use state::SettingsRead;
 use state::Verdict;
+
+// A refusal, as a call returns it.
+fn refused(why: Refusal) -> u32
+    ensures { λ r. ⌜ r ≡ refusalNumber why ⌝ }
+{
+    why.number() as u32
+}
 
 // The pins but for the cells, as one number: IRQ, BZ and its partner by the settings, and byte 39.
 fn pins_code(settings: Settings, line: u8) -> u32
@@ -48,10 +57,10 @@ pub extern "C" fn step(bytes: &mut [u8], sample: u8) -> u32
     let reading = state::read(bytes);
     let verdict = reading.answer;
     let Verdict::Valid = verdict else {
-        return 28;
+        return refused(Refusal::Malformed);
     };
     if 15 < sample {
-        return 20;
+        return refused(Refusal::SampleAbove);
     }
     let chip = reading.chip;
     let done = place::via_place(chip, sample);
@@ -72,7 +81,7 @@ pub extern "C" fn advance(bytes: &mut [u8], n: u16) -> u32
         × (now (bytes .exit) ≡ advanceBytes (now (bytes .entry)) n) ⌝ }
 {
     let SettingsRead::Set(settings) = state::settings_in(bytes) else {
-        return 28;
+        return refused(Refusal::Malformed);
     };
     let next = settings.advanced(n);
     let counters = next.counters;
@@ -87,10 +96,10 @@ pub extern "C" fn pins(bytes: &[u8], out: &mut [u8]) -> u32
         × (now (out .exit) ≡ pinsBytes (now (bytes .entry)) (now (out .entry))) ⌝ }
 {
     let SettingsRead::Set(settings) = state::settings_in(bytes) else {
-        return 28;
+        return refused(Refusal::Malformed);
     };
     if out.len() < 32 {
-        return 25;
+        return refused(Refusal::OutputShort);
     }
     let mask = pins::shown_mask(settings);
     show(bytes, mask, out);

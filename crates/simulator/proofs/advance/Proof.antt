@@ -1,4 +1,5 @@
 -- `simulator::advance` meets its contract: a malformed record is left, of any other the counters are written. Assumes nothing.
+use mathlib.Core.Path.{_∙_}
 use Rattle.simulator.proofs.SimulatorLaws.{advance-malformed, advance-done}
 use borrow.Author.Needs.{needs}
 use Rattle.simulator.proofs.advance.Statement.{statement}
@@ -13,14 +14,20 @@ enum-known-settings c = search needs
 enum-told : tie.Need-enum-told
 enum-told c = search needs
 
+refused-requires : tie.Need-refused-requires
+refused-requires c κs = search needs
+
 same-length : tie.Need-same-length
 same-length c = search needs
 
 returns : tie.Need-returns
 returns c =
-    let read = c .before .before in
+    let told = c .before in
+    let read = told .before .before in
     let start = read .before .before .before in
-    advance-malformed (start .args .bytes .now) (read .settings-in .result) (read .settings-in .ensures) (start .args .n) (c .enum-told .given .1)
+    let due = advance-malformed (start .args .bytes .now) (read .settings-in .result) (read .settings-in .ensures) (start .args .n)
+    (told .enum-told .given .1) in
+    (c .refused .ensures ∙ due .0, due .1)
 
 advanced-requires : tie.Need-advanced-requires
 advanced-requires c κs = search needs
@@ -48,6 +55,7 @@ advance-spec =
     settings-in-requires
     enum-known-settings
     enum-told
+    refused-requires
     same-length
     returns
     advanced-requires

@@ -1,4 +1,5 @@
 -- `simulator::pins` meets its contract: each refusal leaves early, and what shows is written. Assumes nothing.
+use mathlib.Core.Path.{_∙_}
 use native.Mathlib.Omega.{arith}
 use Rattle.simulator.proofs.SimulatorLaws.{pins-malformed, pins-short, pins-long, pins-shown}
 use borrow.Author.Needs.{needs}
@@ -14,19 +15,29 @@ enum-known-settings c = search needs
 enum-told : tie.Need-enum-told
 enum-told c = search needs
 
+refused-requires : tie.Need-refused-requires
+refused-requires c κs = search needs
+
 returns : tie.Need-returns
 returns c =
-    let read = c .before .before in
+    let told = c .before in
+    let read = told .before .before in
     let start = read .before .before .before .args in
-    pins-malformed (start .bytes .now) (start .out .now) (read .settings-in .result) (read .settings-in .ensures) (c .enum-told .given .1)
+    let due = pins-malformed (start .bytes .now) (start .out .now) (read .settings-in .result) (read .settings-in .ensures)
+    (told .enum-told .given .1) in
+    (c .refused .ensures ∙ due .0, due .1)
+
+refused-requires-2 : tie.Need-refused-requires-2
+refused-requires-2 c κs = search needs
 
 returns-2 : tie.Need-returns-2
 returns-2 c =
-    let told = c .before .before in
+    let told = c .before .before .before in
     let read = told .before .before in
     let start = read .before .before .before .args in
-    pins-short (start .bytes .now) (start .out .now) (read .settings-in .result) (read .settings-in .ensures) _ (told .settings .given .1)
-    (c .if1 .taken)
+    let due = pins-short (start .bytes .now) (start .out .now) (read .settings-in .result) (read .settings-in .ensures) _ (told .settings .given .1)
+    (c .before .if1 .taken) in
+    (c .refused2 .ensures ∙ due .0, due .1)
 
 shown-mask-requires : tie.Need-shown-mask-requires
 shown-mask-requires c κs = search needs
@@ -71,7 +82,9 @@ pins-spec =
     settings-in-requires
     enum-known-settings
     enum-told
+    refused-requires
     returns
+    refused-requires-2
     returns-2
     shown-mask-requires
     show-requires

@@ -1,4 +1,5 @@
 -- `simulator::step` meets its contract: each refusal leaves early, and what is left is written. Assumes nothing.
+use mathlib.Core.Path.{_∙_}
 use Rattle.simulator.proofs.SimulatorLaws.{step-malformed, step-above, step-obeyed, step-kept}
 use borrow.Author.Needs.{needs}
 use Rattle.simulator.proofs.step.Statement.{statement}
@@ -13,24 +14,34 @@ enum-told c = search needs
 enum-told-2 : tie.Need-enum-told-2
 enum-told-2 c = search needs
 
+refused-requires : tie.Need-refused-requires
+refused-requires c κs = search needs
+
 same-length : tie.Need-same-length
 same-length c = search needs
 
 returns : tie.Need-returns
 returns c =
-    let read = c .before .before in
+    let told = c .before in
+    let read = told .before .before in
     let start = read .before .before .before in
-    step-malformed (start .args .bytes .now) (read .read .result) (read .read .ensures) (start .args .sample) (c .enum-told2 .given .1)
+    let due = step-malformed (start .args .bytes .now) (read .read .result) (read .read .ensures) (start .args .sample) (told .enum-told2 .given .1) in
+    (c .refused .ensures ∙ due .0, due .1)
+
+refused-requires-2 : tie.Need-refused-requires-2
+refused-requires-2 c κs = search needs
 
 same-length-2 : tie.Need-same-length-2
 same-length-2 c = search needs
 
 returns-2 : tie.Need-returns-2
 returns-2 c =
-    let told = c .before in
+    let told = c .before .before in
     let read = told .before .before in
     let start = read .before .before .before in
-    step-above (start .args .bytes .now) (read .read .result) (read .read .ensures) (start .args .sample) (told .enum-told .given .1) (c .if1 .taken)
+    let due = step-above (start .args .bytes .now) (read .read .result) (read .read .ensures) (start .args .sample) (told .enum-told .given .1)
+    (c .before .if1 .taken) in
+    (c .refused2 .ensures ∙ due .0, due .1)
 
 via-place-requires : tie.Need-via-place-requires
 via-place-requires c κs = search needs
@@ -77,8 +88,10 @@ step-spec =
     read-requires
     enum-told
     enum-told-2
+    refused-requires
     same-length
     returns
+    refused-requires-2
     same-length-2
     returns-2
     via-place-requires
