@@ -39,40 +39,44 @@ miscounted count = eqb count 0 || ltb 128 count || not (eqb (count % 4) 0)
 abbrev pub noRoom : List ℕ → ℕ → Rung
 noRoom stream room = refusedIf (ltb room (length stream)) OutputShort
 
--- What a write from `first` on is answered, its tests in the table's order.
-unfoldable pub writeAnswer : ℕ → List ℕ → ℕ → Outcome
-writeAnswer first nibbles room =
-    answered
-    (refusedIf (nothing (length nibbles)) NothingAsked
+-- A write from `first` on: its tests in the table's order, and what it is answered.
+abbrev pub writeRefusals : ℕ → List ℕ → ℕ → List Rung
+writeRefusals first nibbles room =
+    refusedIf (nothing (length nibbles)) NothingAsked
     ∷ refusedIf (outsideMemory first (length nibbles)) OutOfRange
     ∷ refusedIf (somewhere nibbleFault nibbles) (NibbleAbove (lowest nibbleFault nibbles))
-    ∷ noRoom (writeStream first nibbles) room ∷ [])
-    (writeStream first nibbles)
+    ∷ noRoom (writeStream first nibbles) room ∷ []
 
--- What a read is answered: it has no nibbles that could be at fault.
-unfoldable pub readAnswer : ℕ → ℕ → ℕ → Outcome
-readAnswer first count room =
-    answered
-    (refusedIf (nothing count) NothingAsked
+unfoldable pub writeAnswer : ℕ → List ℕ → ℕ → Outcome
+writeAnswer first nibbles room = answered (writeRefusals first nibbles room) (writeStream first nibbles)
+
+-- A read: it has no nibbles that could be at fault.
+abbrev pub readRefusals : ℕ → ℕ → ℕ → List Rung
+readRefusals first count room =
+    refusedIf (nothing count) NothingAsked
     ∷ refusedIf (outsideMemory first count) OutOfRange
-    ∷ noRoom (readStream first count) room ∷ [])
-    (readStream first count)
+    ∷ noRoom (readStream first count) room ∷ []
 
--- What commands are answered.
-unfoldable pub commandAnswer : List ℕ → ℕ → Outcome
-commandAnswer codes room =
-    answered
-    (refusedIf (nothing (length codes)) NothingAsked
+unfoldable pub readAnswer : ℕ → ℕ → ℕ → Outcome
+readAnswer first count room = answered (readRefusals first count room) (readStream first count)
+
+-- Commands.
+abbrev pub commandRefusals : List ℕ → ℕ → List Rung
+commandRefusals codes room =
+    refusedIf (nothing (length codes)) NothingAsked
     ∷ refusedIf (tooMany (length codes)) OutOfRange
     ∷ refusedIf (somewhere commandFault codes) (UndefinedCommand (lowest commandFault codes))
-    ∷ noRoom (commandStream codes) room ∷ [])
-    (commandStream codes)
+    ∷ noRoom (commandStream codes) room ∷ []
 
--- What noted bytes are answered: a byte is written for each four.
-unfoldable pub decodeAnswer : List ℕ → ℕ → Outcome
-decodeAnswer noted room =
-    answered
-    (refusedIf (miscounted (length noted)) NotedCount
+unfoldable pub commandAnswer : List ℕ → ℕ → Outcome
+commandAnswer codes room = answered (commandRefusals codes room) (commandStream codes)
+
+-- Noted bytes: a byte is written for each four.
+abbrev pub decodeRefusals : List ℕ → ℕ → List Rung
+decodeRefusals noted room =
+    refusedIf (miscounted (length noted)) NotedCount
     ∷ refusedIf (somewhere notedFault noted) (NotedAbove (lowest notedFault noted))
-    ∷ noRoom (decoded noted) room ∷ [])
-    (decoded noted)
+    ∷ noRoom (decoded noted) room ∷ []
+
+unfoldable pub decodeAnswer : List ℕ → ℕ → Outcome
+decodeAnswer noted room = answered (decodeRefusals noted room) (decoded noted)

@@ -11,12 +11,13 @@ use Rattle.ground.proofs.ChoiceLaws.{either, by-cases}
 use Rattle.ground.specs.declared.Refusal.{Refusal}
 use Rattle.ground.specs.declared.Refusal.the-variants.{SampleAbove, NothingAsked, OutOfRange, NibbleAbove, UndefinedCommand}
 use Rattle.ground.specs.declared.Refusal.the-variants.{OutputShort, NotedCount, NotedAbove, Malformed, MemoryCount}
-use Rattle.ground.specs.Places.{lowest, somewhere}
+use Rattle.ground.specs.Places.{lowest}
 use Rattle.ground.specs.Refusals.{refusalNumber, refusalPlace}
-use Rattle.driver.specs.declared.Answer.{Answer}
-use Rattle.driver.specs.declared.Answer.the-variants.{Written, Refused}
-use Rattle.driver.specs.Refusals.{nothing, outsideMemory, tooMany, miscounted, nibbleFault, notedFault, commandFault}
-use Rattle.driver.specs.Refusals.{refusedIf, fitted, writeAnswer, readAnswer, commandAnswer, decodeAnswer}
+use Rattle.ground.specs.declared.Outcome.{Outcome}
+use Rattle.ground.specs.declared.Outcome.the-variants.{Written, Refused}
+use Rattle.ground.specs.Outcomes.{Rung, ladder}
+use Rattle.driver.specs.Refusals.{tooMany, miscounted, nibbleFault, notedFault, commandFault}
+use Rattle.driver.specs.Refusals.{writeRefusals, readRefusals, commandRefusals, decodeRefusals, writeAnswer, readAnswer, commandAnswer, decodeAnswer}
 use Rattle.driver.specs.Streams.{writeStream, readStream, commandStream, decoded}
 use Rattle.driver.proofs.RefusalsLaws.{inside}
 use Rattle.driver.proofs.StreamsLaws.{write-length, read-length, commands-length, decoded-length}
@@ -35,11 +36,11 @@ number-small Malformed = omega arith
 number-small MemoryCount = omega arith
 
 -- A success counts few bytes, a refusal has a low place; and which of the two an answer is.
-abbrev pub Small : Answer → Type 0
+abbrev pub Small : Outcome → Type 0
 Small (Written count) = count ≤ 585
 Small (Refused why) = refusalPlace why ≤ 128
 
-abbrev pub succeeded : Answer → Bool
+abbrev pub succeeded : Outcome → Bool
 succeeded (Written count) = true
 succeeded (Refused why) = false
 
@@ -48,13 +49,13 @@ pub refused-held : (why : Refusal) → refusalPlace why ≤ 128 → refusedCode 
 unfolding refusedCode
 refused-held why h = omega (arith, number-small why)
 
-pub answer-held : (answer : Answer) → Small answer → hostCode answer < 4294967296
+pub answer-held : (answer : Outcome) → Small answer → hostCode answer < 4294967296
 unfolding hostCode
 answer-held (Written count) h = omega arith
 answer-held (Refused why) h = refused-held why h
 
 -- a code from 2^31 on is a refusal, and every other a success
-pub code-tells : (answer : Answer) → Small answer → ltb (hostCode answer) 2147483648 ≡ succeeded answer
+pub code-tells : (answer : Outcome) → Small answer → ltb (hostCode answer) 2147483648 ≡ succeeded answer
 unfolding hostCode refusedCode
 code-tells (Written count) h = lt-ltb count 2147483648 (omega arith)
 code-tells (Refused why) h = le-ltb (refusedCode why) 2147483648 (omega arith)
@@ -74,20 +75,15 @@ place-within test (value ∷ values) =
     let rest = place-within test values in
     either (λ (place : ℕ). place ≤ suc (length values)) (test value) (omega arith) (omega (arith, rest))
 
--- a stream that fits, or 25
-fitted-small : (stream : List ℕ) (room : ℕ) → length stream ≤ 585 → Small (fitted stream room)
-fitted-small stream room h = either Small (ltb room (length stream)) (omega arith) h
+-- Past the tests before it each rung has a low place, and past them all few bytes are written.
+abbrev pub Low : List Rung → ℕ → Type 0
+Low [] size = size ≤ 585
+Low (rung ∷ rungs) size = (refusalPlace (rung .why) ≤ 128) × (rung .holds ≡ false → Low rungs size)
 
--- The shape that its four calls share: two tests whose refusals have no place, a fault with its place, and the room. Past
--- the tests the place is low and the stream short.
-module _ (none outside faulty : Bool) (first second fault : Refusal) (stream : List ℕ) (room : ℕ) where
-  tested-small : refusalPlace first ≡ 0 → refusalPlace second ≡ 0
-      → (outside ≡ false → (refusalPlace fault ≤ 128) × (length stream ≤ 585))
-      → Small (refusedIf none first (refusedIf outside second (refusedIf faulty fault (fitted stream room))))
-  tested-small one two rest =
-      either Small none (omega (arith, one))
-      (by-cases Small outside (λ e. omega (arith, two))
-      (λ e. either Small faulty (rest e .0) (fitted-small stream room (rest e .1))))
+pub ladder-small : (rungs : List Rung) (size : ℕ) → Low rungs size → Small (ladder Refused rungs (Written size))
+ladder-small [] size low = low
+ladder-small (rung ∷ rungs) size low =
+    by-cases Small (rung .holds) (λ holds. low .0) (λ fails. ladder-small rungs size (low .1 fails))
 
 -- noted bytes that are not miscounted are 128 at most
 few-noted : (count : ℕ) → miscounted count ≡ false → count ≤ 128
@@ -102,30 +98,32 @@ few-noted count e = second (eqb count 0) (ltb 128 count) (not (eqb (count % 4) 0
 pub write-small : (first : ℕ) (nibbles : List ℕ) (room : ℕ) → Small (writeAnswer first nibbles room)
 unfolding writeAnswer
 write-small first nibbles room =
-    tested-small (nothing (length nibbles)) (outsideMemory first (length nibbles)) (somewhere nibbleFault nibbles)
-    NothingAsked OutOfRange (NibbleAbove (lowest nibbleFault nibbles)) (writeStream first nibbles) room refl refl
-    (λ e. let few = inside first (length nibbles) e .1 in
-    (omega (arith, few, place-within nibbleFault nibbles), omega (arith, few, write-length first nibbles)))
+    ladder-small (writeRefusals first nibbles room) (length (writeStream first nibbles)) (omega arith, λ some. (omega arith, λ e.
+    let few = inside first (length nibbles) e .1 in (
+      omega (arith, few, place-within nibbleFault nibbles),
+      λ clean. (omega arith, λ fits. omega (arith, few, write-length first nibbles)),
+    )))
 
 pub read-small : (first count room : ℕ) → Small (readAnswer first count room)
 unfolding readAnswer
 read-small first count room =
-    tested-small (nothing count) (outsideMemory first count) false
-    NothingAsked OutOfRange OutOfRange (readStream first count) room refl refl
-    (λ e. (omega arith, omega (arith, inside first count e .1, read-length first count)))
+    ladder-small (readRefusals first count room) (length (readStream first count)) (omega arith, λ some. (omega arith, λ e.
+    (omega arith, λ fits. omega (arith, inside first count e .1, read-length first count))))
 
 pub commands-small : (codes : List ℕ) (room : ℕ) → Small (commandAnswer codes room)
 unfolding commandAnswer tooMany
 commands-small codes room =
-    tested-small (nothing (length codes)) (ltb 32 (length codes)) (somewhere commandFault codes)
-    NothingAsked OutOfRange (UndefinedCommand (lowest commandFault codes)) (commandStream codes) room refl refl
-    (λ e. let few = ltb-false 32 (length codes) e in
-    (omega (arith, few, place-within commandFault codes), omega (arith, few, commands-length codes)))
+    ladder-small (commandRefusals codes room) (length (commandStream codes)) (omega arith, λ some. (omega arith, λ e.
+    let few = ltb-false 32 (length codes) e in (
+      omega (arith, few, place-within commandFault codes),
+      λ clean. (omega arith, λ fits. omega (arith, few, commands-length codes)),
+    )))
 
 pub decode-small : (noted : List ℕ) (room : ℕ) → Small (decodeAnswer noted room)
 unfolding decodeAnswer
 decode-small noted room =
-    tested-small false (miscounted (length noted)) (somewhere notedFault noted)
-    NotedCount NotedCount (NotedAbove (lowest notedFault noted)) (decoded noted) room refl refl
-    (λ e. let few = few-noted (length noted) e in
-    (omega (arith, few, place-within notedFault noted), omega (arith, few, decoded-length noted)))
+    ladder-small (decodeRefusals noted room) (length (decoded noted)) (omega arith, λ e.
+    let few = few-noted (length noted) e in (
+      omega (arith, few, place-within notedFault noted),
+      λ clean. (omega arith, λ fits. omega (arith, few, decoded-length noted)),
+    ))

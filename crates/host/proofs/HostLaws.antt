@@ -1,40 +1,41 @@
 -- What each call returns and leaves, by what it was answered. Assumes nothing.
 use mathlib.Core.Path.{_≡_, _∙_, refl, sym, ap}
-use mathlib.Core.Bool.{true}
+use mathlib.Core.Bool.{Bool, true, false, cond, not}
 use mathlib.Core.List.{List, [], _∷_}
 use Prim.Native.Nat.{ℕ, suc, _≤_, _<_}
 use native.Mathlib.Omega.{arith}
 use lib.Dec.{eqb, ltb}
 use lib.ListN.{length, getD, replicate}
 use borrow.Author.Tests.{lt-ltb, le-ltb, ltb-false, eqb-true}
-use Rattle.ground.proofs.ChoiceLaws.{either, by-cases}
+use Rattle.ground.proofs.ChoiceLaws.{by-cases}
 use Rattle.ground.proofs.PlacesLaws.{none-above}
 use Rattle.ground.specs.declared.Refusal.{Refusal}
-use Rattle.ground.specs.declared.Refusal.the-variants.{OutputShort}
+use Rattle.ground.specs.declared.Refusal.the-variants.{OutputShort, NibbleAbove, MemoryCount}
+use Rattle.ground.specs.declared.Outcome.{Outcome}
+use Rattle.ground.specs.declared.Outcome.the-variants.{Written, Refused}
+use Rattle.ground.specs.Outcomes.{left, ComesTo}
 use Rattle.ground.specs.Places.{lowest, somewhere}
 use Rattle.ground.specs.Refusals.{refusalPlace}
 use Rattle.chip.specs.declared.PoweredOn.{PoweredOn}
 use Rattle.chip.specs.declared.Start.{Start}
 use Rattle.chip.specs.declared.Start.the-variants as start
-use Rattle.chip.specs.PowerOn.{freshChip, emptyChip, poweredOn}
+use Rattle.chip.specs.PowerOn.{freshChip, emptyChip, notStarted, poweredOn}
 use Rattle.chip.specs.Valid.{Nibbles, Valid}
 use Rattle.chip.proofs.ValidLaws.{freshChip-valid}
-use Rattle.driver.specs.declared.Answer.{Answer}
-use Rattle.driver.specs.Refusals.{Does, left}
 use Rattle.state.specs.Record.{recordValid}
-use Rattle.state.specs.Answers.{writtenOver}
+use Rattle.state.specs.Answers.{writtenAs, writtenOver}
 use Rattle.state.proofs.TripLaws.{valid-has}
 use Rattle.state.proofs.ChipLaws.{chip-valid}
-use Rattle.host.specs.Host.{refusedCode, hostCode, whereOn, recordFitted, powerOnRecord, powerOnAnswer, powerOnReturns, powerOnBytes}
-use Rattle.host.proofs.CodesLaws.{Small, refused-held, answer-held, place-within}
+use Rattle.host.specs.Host.{refusedCode, hostCode, powerOnRecord, recordRefusals, powerOnAnswer, powerOnReturns, powerOnBytes}
+use Rattle.host.proofs.CodesLaws.{Small, ladder-small, refused-held, answer-held, place-within}
 
 -- what the driver does is what the call does
-module _ {due : Answer} {stream before after : List ℕ} {r : Answer} (does : Does due stream before r after) where
-  pub does-held : Small due → hostCode r < 4294967296
-  does-held small = answer-held r (rw (does .answer) small)
+module _ {due : Outcome} {stream before after : List ℕ} {r : Outcome} (comes : ComesTo due stream before r after) where
+  pub comes-held : Small due → hostCode r < 4294967296
+  comes-held small = answer-held r (rw (comes .answer) small)
 
-  pub does-told : {code : ℕ} → code ≡ hostCode r → (code ≡ hostCode due) × (after ≡ left due stream before)
-  does-told e = (e ∙ ap hostCode (does .answer), does .bytes)
+  pub comes-told : {code : ℕ} → code ≡ hostCode r → (code ≡ hostCode due) × (after ≡ left due stream before)
+  comes-told e = (e ∙ ap hostCode (comes .answer), comes .bytes)
 
 -- ---- power-on
 
@@ -57,16 +58,23 @@ nibbles-from (nibble ∷ memory) low =
 fresh-valid : (memory : List ℕ) → length memory ≡ 32 → length memory ≤ lowest (ltb 15) memory → Valid (freshChip memory)
 fresh-valid memory size low = freshChip-valid memory size (nibbles-from memory (none-above 15 memory low))
 
+-- a memory that is not refused with 29
+of-32 : (memory : List ℕ) → not (eqb (length memory) 32) ≡ false → length memory ≡ 32
+of-32 memory e = eqb-true (length memory) 32 (by (eqb (length memory) 32) e)
+  where
+    by : (b : Bool) → not b ≡ false → b ≡ true
+    by true e = refl
+    by false e = sym e
+
 started : (memory : List ℕ) → Started (poweredOn memory)
 unfolding poweredOn emptyChip
 started memory =
     let empty : Valid (freshChip (replicate 32 0)) = fresh-valid (replicate 32 0) refl (omega arith) in
-    by-cases Started (eqb (length memory) 32)
-    (λ long. let size = eqb-true (length memory) 32 long in
+    by-cases Started (not (eqb (length memory) 32)) (λ other. record { place = omega arith; valid = empty })
+    (λ long. let size = of-32 memory long in
     by-cases Started (somewhere (ltb 15) memory)
     (λ above. record { place = omega (arith, size, place-within (ltb 15) memory); valid = empty })
     (λ low. record { place = omega arith; valid = fresh-valid memory size (ltb-false _ _ low) }))
-    (λ other. record { place = omega arith; valid = empty })
 
 -- so what is written is a valid record, and its 64 bytes
 pub power-on-valid : (memory : List ℕ) → recordValid (powerOnRecord memory) ≡ true
@@ -76,10 +84,27 @@ power-on-valid memory = chip-valid (poweredOn memory .chip) (started memory .val
 pub power-on-size : (memory : List ℕ) → length (powerOnRecord memory) ≡ 64
 power-on-size memory = valid-has (powerOnRecord memory) (power-on-valid memory) .long
 
+-- what the chip answers decides first, and only where it is on the room
+abbrev whereOn : Start → Outcome → Outcome
+whereOn start.On then = then
+whereOn (start.Refused why) then = Refused why
+
+abbrev recordFitted : ℕ → Outcome
+recordFitted room = cond (ltb room 64) (Refused OutputShort) (Written 64)
+
 power-on-due : (memory : List ℕ) (room : ℕ)
     → powerOnAnswer memory room ≡ whereOn (poweredOn memory .answer) (recordFitted room)
-unfolding powerOnAnswer
-power-on-due memory room = refl
+unfolding powerOnAnswer poweredOn
+power-on-due memory room = by (not (eqb (length memory) 32)) (somewhere (ltb 15) memory)
+  where
+    by : (other above : Bool)
+        → cond other (Refused MemoryCount) (cond above (Refused (NibbleAbove (lowest (ltb 15) memory))) (recordFitted room))
+        ≡ whereOn (cond other (notStarted MemoryCount)
+        (cond above (notStarted (NibbleAbove (lowest (ltb 15) memory))) (record { answer = start.On; chip = freshChip memory })) .answer)
+        (recordFitted room)
+    by true above = refl
+    by false true = refl
+    by false false = refl
 
 module _ (memory bytes : List ℕ) (powered : PoweredOn) (e : powered ≡ poweredOn memory) where
   answered : powered .answer ≡ poweredOn memory .answer
@@ -106,18 +131,14 @@ module _ (memory bytes : List ℕ) (powered : PoweredOn) (e : powered ≡ powere
   pub power-on-done : (after : List ℕ) → powered .answer ≡ start.On → 64 ≤ length bytes
       → after ≡ writtenOver (powered .chip) bytes
       → (64 ≡ powerOnReturns memory bytes) × (after ≡ powerOnBytes memory bytes)
-  unfolding powerOnReturns powerOnBytes powerOnRecord writtenOver hostCode
+  unfolding powerOnReturns powerOnBytes powerOnRecord writtenOver writtenAs hostCode
   power-on-done after r h w =
       let d = due start.On r in
       (simp (d, le-ltb _ _ h), w ∙ simp (e, le-ltb _ _ h, d))
 
-where-small : (answer : Start) (then : Answer) → placeOf answer ≤ 128 → Small then → Small (whereOn answer then)
-where-small start.On then low small = small
-where-small (start.Refused why) then low small = low
-
 -- the code of every answer of power-on tells, too
 pub power-on-small : (memory : List ℕ) (room : ℕ) → Small (powerOnAnswer memory room)
+unfolding powerOnAnswer
 power-on-small memory room =
-    rw (power-on-due memory room)
-    (where-small (poweredOn memory .answer) (recordFitted room) (started memory .place)
-    (either Small (ltb room 64) (omega arith) (omega arith)))
+    ladder-small (recordRefusals memory room) 64 (omega arith, λ long.
+    (omega (arith, of-32 memory long, place-within (ltb 15) memory), λ clean. (omega arith, λ fits. omega arith)))

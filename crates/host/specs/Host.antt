@@ -1,19 +1,18 @@
 -- 01 "Driver streams" and the power-on of 01 "Commands", as calls for C: what each exported call returns, and the bytes that
 -- it leaves, for every list of bytes. Assumes nothing.
 use Prim.Native.Nat.{ℕ, _+_, _*_}
-use mathlib.Core.List.{List}
+use mathlib.Core.List.{List, [], _∷_, _++_}
 use lib.Dec.{ltb}
 use lib.ListN.{length}
 use Rattle.ground.specs.declared.Refusal.{Refusal}
 use Rattle.ground.specs.declared.Refusal.the-variants.{OutputShort}
 use Rattle.ground.specs.Refusals.{refusalNumber, refusalPlace}
-use Rattle.chip.specs.declared.Start.{Start}
-use Rattle.chip.specs.declared.Start.the-variants as start
-use Rattle.chip.specs.PowerOn.{poweredOn}
-use Rattle.driver.specs.declared.Answer.{Answer}
-use Rattle.driver.specs.declared.Answer.the-variants.{Written, Refused}
+use Rattle.ground.specs.declared.Outcome.{Outcome}
+use Rattle.ground.specs.declared.Outcome.the-variants.{Written, Refused}
+use Rattle.ground.specs.Outcomes.{left, Rung, refusedIf, ladder}
+use Rattle.chip.specs.PowerOn.{powerOnRefusals, poweredOn}
 use Rattle.driver.specs.Streams.{writeStream, readStream, commandStream, decoded}
-use Rattle.driver.specs.Refusals.{refusedIf, left, writeAnswer, readAnswer, commandAnswer, decodeAnswer}
+use Rattle.driver.specs.Refusals.{writeAnswer, readAnswer, commandAnswer, decodeAnswer}
 use Rattle.state.specs.Record.{recordOf}
 
 -- A refusal as one number: 2^31, which no count of bytes reaches; the place above the lowest byte; and there the number.
@@ -21,25 +20,20 @@ unfoldable pub refusedCode : Refusal → ℕ
 refusedCode why = 2147483648 + 256 * refusalPlace why + refusalNumber why
 
 -- An answer as one number: a success is the number of bytes written.
-unfoldable pub hostCode : Answer → ℕ
+unfoldable pub hostCode : Outcome → ℕ
 hostCode (Written count) = count
 hostCode (Refused why) = refusedCode why
 
--- Power-on as the chip answers it, 29 and then 23 with its place; only where the chip is on, what comes then.
-abbrev pub whereOn : Start → Answer → Answer
-whereOn start.On then = then
-whereOn (start.Refused why) then = Refused why
-
--- 25, last of all: the 64 bytes of a record have to fit.
-abbrev pub recordFitted : ℕ → Answer
-recordFitted room = refusedIf (ltb room 64) OutputShort (Written 64)
-
--- Power-on: the record of the chip handed out, or why there is none.
+-- Power-on: the record of the chip handed out. It is refused as the chip refuses it, 29 and then 23 with its place; and 25 last of
+-- all, where the 64 bytes of a record do not fit.
 unfoldable pub powerOnRecord : List ℕ → List ℕ
 powerOnRecord memory = recordOf (poweredOn memory .chip)
 
-unfoldable pub powerOnAnswer : List ℕ → ℕ → Answer
-powerOnAnswer memory room = whereOn (poweredOn memory .answer) (recordFitted room)
+abbrev pub recordRefusals : List ℕ → ℕ → List Rung
+recordRefusals memory room = powerOnRefusals memory ++ refusedIf (ltb room 64) OutputShort ∷ []
+
+unfoldable pub powerOnAnswer : List ℕ → ℕ → Outcome
+powerOnAnswer memory room = ladder Refused (recordRefusals memory room) (Written 64)
 
 unfoldable pub powerOnReturns : List ℕ → List ℕ → ℕ
 powerOnReturns memory bytes = hostCode (powerOnAnswer memory (length bytes))

@@ -7,7 +7,7 @@ ghost use Rattle.host.specs.Host.{refusedCode, hostCode, powerOnReturns,
 ghost use Rattle.host.specs.Host.{writeReturns, writeBytes, readReturns, readBytes};
 ghost use Rattle.host.specs.Host.{commandsReturns, commandsBytes, decodeReturns, decodeBytes};
 use chip::Start;
-use driver::Answer;
+use ground::Outcome;
 use ground::Refusal;
 
 // A refusal and its place as one number, where 32 bits hold it.
@@ -21,13 +21,13 @@ fn refused_code(refusal: Refusal) -> u32
 }
 
 // An answer as one number, where 32 bits hold it.
-fn code_of(answer: Answer) -> u32
+fn code_of(answer: Outcome) -> u32
     requires { ⌜ hostCode answer < 4294967296 ⌝ }
     ensures { λ r. ⌜ r ≡ hostCode answer ⌝ }
 {
     match answer {
-        Answer::Written(count) => count as u32,
-        Answer::Refused(refusal) => refused_code(refusal),
+        Outcome::Written(count) => count as u32,
+        Outcome::Refused(refusal) => refused_code(refusal),
     }
 }
 
