@@ -1,13 +1,19 @@
 -- The cases of 01, computed from the definitions. Assumes nothing.
-use mathlib.Core.Path.{_≡_, _∙_, refl, ap}
+use mathlib.Core.Path.{_≡_, _∙_, refl, sym, ap}
+use mathlib.Core.Bool.{Bool, true, false, _||_}
 use mathlib.Core.List.{List, [], _∷_}
 use Prim.Native.Nat.{ℕ, _+_, _*_, _≤_}
 use native.Mathlib.Omega.{arith}
 use lib.ListN.{length}
 use borrow.Author.Tests.{le-ltb}
 use Rattle.commands.specs.Commands.{byteMeaning}
+use Rattle.clock.specs.declared.Source.{Source}
+use Rattle.clock.specs.declared.Source.the-variants.{Xtal, Rc}
+use Rattle.rules.specs.declared.IrqSource.{IrqSource}
+use Rattle.rules.specs.declared.IrqSource.the-variants.{TimeBase, Flag}
+use Rattle.rules.specs.declared.Settings.{Settings}
 use Rattle.rules.specs.Effects.{effect}
-use Rattle.rules.specs.Ticks.{running, ticked, advanced}
+use Rattle.rules.specs.Ticks.{isExt, running, ticked, advanced}
 use Rattle.clock.specs.Ticks.{due, timerStepped, baseTicked, prescaledTick, countersTicked}
 use Rattle.pins.specs.Pins.{irqLow}
 use Rattle.frames.specs.Frames.{frame, closed}
@@ -15,7 +21,49 @@ use Rattle.chip.specs.Chip.{stepped, moved, framedBy, memoryAfter, settingsAfte
 use Rattle.driver.specs.Refusals.{writeAnswer, outsideMemory}
 use Rattle.driver.specs.Streams.{writeStream, commandStream}
 use Rattle.driver.proofs.StreamsLaws.{write-length}
-use Rattle.demands.specs.Cases.{Cases}
+use Rattle.demands.specs.Cases.{Cleared, Cases}
+
+-- ---- where (h), (i) and (j) begin: what their conditions name are numbers there, and the ticks can be computed
+
+-- settings with these in the places that the conditions name
+abbrev with-conditions : (on : Bool) (clock : Source) (output : Bool) (source : IrqSource) (base : Bool) (rate p d b w : ℕ) (flag : Bool)
+    → Settings → Settings
+with-conditions on clock output source base rate p d b w flag s =
+    record {
+      system = record { on = on; source = clock };
+      lcd = s .lcd;
+      tone = s .tone;
+      irq = record { on = output; source = source };
+      base = record { on = base; rate = rate };
+      counters =
+          record {
+            prescaler = record { count = p };
+            toner = s .counters .toner;
+            timer = record { divider = record { count = d }; base = record { count = b }; watchdog = record { count = w; flag = flag } };
+          };
+      test = s .test;
+    }
+
+-- except at EXT it is the system that runs
+system-on : (on : Bool) (clock : Source) → isExt clock ≡ false → (on || isExt clock) ≡ true → on ≡ true
+system-on true clock inside e = refl
+system-on false clock inside e = sym inside ∙ e
+
+module _ (clock : Source) (source : IrqSource) (inside : isExt clock ≡ false) (s : Settings) (c : Cleared clock source s) where
+  begins : (output : Bool) (p : ℕ) → s .irq .on ≡ output → s .counters .prescaler .count ≡ p
+      → s ≡ with-conditions true clock output source true 7 p 0 0 0 false s
+  unfolding running
+  begins output p switched prescaled =
+      let on = system-on (s .system .on) clock inside (ap (λ (k : Source). s .system .on || isExt k) (sym (c .clocked)) ∙ c .isRunning) in
+      λ i.
+      with-conditions (on i) (c .clocked i) (switched i) (c .irqFrom i) (c .timeBaseOn i) (c .rateSeven i) (prescaled i)
+      (c .dZero i) (c .bZero i) (c .wZero i) (c .flagOff i) s
+
+abbrev flag-after : ℕ → Settings → Bool
+flag-after n s = advanced n s .counters .timer .watchdog .flag
+
+abbrev low-after : ℕ → Settings → Bool
+low-after n s = irqLow (advanced n s)
 
 pub cases : Cases
 unfolding byteMeaning effect running ticked advanced due timerStepped baseTicked prescaledTick countersTicked irqLow frame closed stepped moved framedBy memoryAfter settingsAfter obeyedAs writeAnswer outsideMemory writeStream commandStream
@@ -28,8 +76,17 @@ cases =
       e = λ code. refl;
       f = (refl, refl);
       g = λ s. (refl, refl, refl, refl);
-      h = (refl, refl);
-      i = (refl, refl);
-      j = (refl, refl);
+      h =
+          λ s c.
+          let at = begins Xtal Flag refl s c (s .irq .on) (s .counters .prescaler .count) refl refl in
+          (ap (flag-after 1024) at, ap (flag-after 1023) at);
+      i =
+          λ s c on.
+          let at = begins Xtal TimeBase refl s c true (s .counters .prescaler .count) on refl in
+          (ap (low-after 128) at, ap (low-after 127) at);
+      j =
+          λ s c on p.
+          let at = begins Rc TimeBase refl s c true 0 on p in
+          (ap (low-after 1024) at, ap (low-after 1023) at);
       k = refl;
     }
