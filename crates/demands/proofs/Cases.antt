@@ -59,11 +59,14 @@ module _ (clock : Source) (source : IrqSource) (inside : isExt clock ≡ false) 
       with-conditions (on i) (c .clocked i) (switched i) (c .irqFrom i) (c .timeBaseOn i) (c .rateSeven i) (prescaled i)
       (c .dZero i) (c .bZero i) (c .wZero i) (c .flagOff i) s
 
-abbrev flag-after : ℕ → Settings → Bool
-flag-after n s = advanced n s .counters .timer .watchdog .flag
+-- what n ticks bring and m do not from there, they bring and do not bring from here
+brought : {here there : Settings} → here ≡ there → (sign : Settings → Bool) (n m : ℕ)
+    → (sign (advanced n there) ≡ true) × (sign (advanced m there) ≡ false)
+    → (sign (advanced n here) ≡ true) × (sign (advanced m here) ≡ false)
+brought e sign n m from = (ap (λ (s : Settings). sign (advanced n s)) e ∙ from .0, ap (λ (s : Settings). sign (advanced m s)) e ∙ from .1)
 
-abbrev low-after : ℕ → Settings → Bool
-low-after n s = irqLow (advanced n s)
+abbrev flag-set : Settings → Bool
+flag-set s = s .counters .timer .watchdog .flag
 
 pub cases : Cases
 unfolding byteMeaning effect running ticked advanced due timerStepped baseTicked prescaledTick countersTicked irqLow frame closed stepped moved framedBy memoryAfter settingsAfter obeyedAs writeAnswer outsideMemory writeStream commandStream
@@ -76,17 +79,8 @@ cases =
       e = λ code. refl;
       f = (refl, refl);
       g = λ s. (refl, refl, refl, refl);
-      h =
-          λ s c.
-          let at = begins Xtal Flag refl s c (s .irq .on) (s .counters .prescaler .count) refl refl in
-          (ap (flag-after 1024) at, ap (flag-after 1023) at);
-      i =
-          λ s c on.
-          let at = begins Xtal TimeBase refl s c true (s .counters .prescaler .count) on refl in
-          (ap (low-after 128) at, ap (low-after 127) at);
-      j =
-          λ s c on p.
-          let at = begins Rc TimeBase refl s c true 0 on p in
-          (ap (low-after 1024) at, ap (low-after 1023) at);
+      h = λ s c. brought (begins Xtal Flag refl s c _ _ refl refl) flag-set 1024 1023 (refl, refl);
+      i = λ s c on. brought (begins Xtal TimeBase refl s c _ _ on refl) irqLow 128 127 (refl, refl);
+      j = λ s c on p. brought (begins Rc TimeBase refl s c _ _ on p) irqLow 1024 1023 (refl, refl);
       k = refl;
     }

@@ -54,18 +54,18 @@ pub record Cases : Type 0 where
   pub e : (code : ℕ) → length (commandStream (code ∷ [])) ≡ 27
   -- (f) 2B is 4 commons, 2C is undefined
   pub f : (byteMeaning 0x2B ≡ Means (BiasCom Third Four)) × (byteMeaning 0x2C ≡ Undefined)
-  -- (g) 0D clears b and leaves w, 0F clears both
+  -- (g) 0D makes b 0 and w stays as it was, 0F makes both 0
   pub g : (s : Settings) → (obeyedAs (byteMeaning 0x0D) s .counters .timer .base .count ≡ 0)
       × (obeyedAs (byteMeaning 0x0D) s .counters .timer .watchdog ≡ s .counters .timer .watchdog)
       × (obeyedAs (byteMeaning 0x0F) s .counters .timer .base .count ≡ 0)
       × (obeyedAs (byteMeaning 0x0F) s .counters .timer .watchdog .count ≡ 0)
-  -- (h) from the crystal the flag is set by tick 1,024 and not by 1,023
+  -- (h) from the crystal the flag comes with tick 1,024, and not with an earlier one
   pub h : (s : Settings) → Cleared Xtal Flag s
       → (advanced 1024 s .counters .timer .watchdog .flag ≡ true) × (advanced 1023 s .counters .timer .watchdog .flag ≡ false)
-  -- (i) with the time base for source and the output on, IRQ is low after tick 128, not after 127
+  -- (i) with the time base for source and the output on, 128 ticks bring IRQ low and 127 do not
   pub i : (s : Settings) → Cleared Xtal TimeBase s → s .irq .on ≡ true
       → (irqLow (advanced 128 s) ≡ true) × (irqLow (advanced 127 s) ≡ false)
-  -- (j) at RC from p = 0 it is low after 1,024, not after 1,023
+  -- (j) at RC from p = 0 it takes eight times as many
   pub j : (s : Settings) → Cleared Rc TimeBase s → s .irq .on ≡ true → s .counters .prescaler .count ≡ 0
       → (irqLow (advanced 1024 s) ≡ true) × (irqLow (advanced 1023 s) ≡ false)
   -- (k) noted 1, 0, 1, 0 is 5
