@@ -1,6 +1,6 @@
 -- The cases of 01, computed from the definitions. Assumes nothing.
-use mathlib.Core.Path.{_≡_, _∙_, refl, sym, ap}
-use mathlib.Core.Bool.{Bool, true, false, _||_}
+use mathlib.Core.Path.{_≡_, _∙_, refl, ap}
+use mathlib.Core.Bool.{Bool, true, false}
 use mathlib.Core.List.{List, [], _∷_}
 use Prim.Native.Nat.{ℕ, _+_, _*_, _≤_}
 use native.Mathlib.Omega.{arith}
@@ -8,12 +8,10 @@ use lib.ListN.{length}
 use borrow.Author.Tests.{le-ltb}
 use Rattle.commands.specs.Commands.{byteMeaning}
 use Rattle.clock.specs.declared.Source.{Source}
-use Rattle.clock.specs.declared.Source.the-variants.{Xtal, Rc}
 use Rattle.rules.specs.declared.IrqSource.{IrqSource}
-use Rattle.rules.specs.declared.IrqSource.the-variants.{TimeBase, Flag}
 use Rattle.rules.specs.declared.Settings.{Settings}
 use Rattle.rules.specs.Effects.{effect}
-use Rattle.rules.specs.Ticks.{isExt, running, ticked, advanced}
+use Rattle.rules.specs.Ticks.{running, ticked, advanced}
 use Rattle.clock.specs.Ticks.{due, timerStepped, baseTicked, prescaledTick, countersTicked}
 use Rattle.pins.specs.Pins.{irqLow}
 use Rattle.frames.specs.Frames.{frame, closed}
@@ -44,20 +42,12 @@ with-conditions on clock output source base rate p d b w flag s =
       test = s .test;
     }
 
--- except at EXT it is the system that runs
-system-on : (on : Bool) (clock : Source) → isExt clock ≡ false → (on || isExt clock) ≡ true → on ≡ true
-system-on true clock inside e = refl
-system-on false clock inside e = sym inside ∙ e
-
-module _ (clock : Source) (source : IrqSource) (inside : isExt clock ≡ false) (s : Settings) (c : Cleared clock source s) where
-  begins : (output : Bool) (p : ℕ) → s .irq .on ≡ output → s .counters .prescaler .count ≡ p
-      → s ≡ with-conditions true clock output source true 7 p 0 0 0 false s
-  unfolding running
-  begins output p switched prescaled =
-      let on = system-on (s .system .on) clock inside (ap (λ (k : Source). s .system .on || isExt k) (sym (c .clocked)) ∙ c .isRunning) in
-      λ i.
-      with-conditions (on i) (c .clocked i) (switched i) (c .irqFrom i) (c .timeBaseOn i) (c .rateSeven i) (prescaled i)
-      (c .dZero i) (c .bZero i) (c .wZero i) (c .flagOff i) s
+begins : {clock : Source} {source : IrqSource} {output : Bool} {p : ℕ} (s : Settings) → Cleared clock source s → s .irq .on ≡ output
+    → s .counters .prescaler .count ≡ p → s ≡ with-conditions true clock output source true 7 p 0 0 0 false s
+begins s c switched prescaled =
+    λ i.
+    with-conditions (c .systemOn i) (c .clocked i) (switched i) (c .irqFrom i) (c .timeBaseOn i) (c .rateSeven i) (prescaled i)
+    (c .dZero i) (c .bZero i) (c .wZero i) (c .flagOff i) s
 
 -- what n ticks bring and m do not from there, they bring and do not bring from here
 brought : {here there : Settings} → here ≡ there → (sign : Settings → Bool) (n m : ℕ)
@@ -79,8 +69,8 @@ cases =
       e = λ code. refl;
       f = (refl, refl);
       g = λ s. (refl, refl, refl, refl);
-      h = λ s c. brought (begins Xtal Flag refl s c _ _ refl refl) flag-set 1024 1023 (refl, refl);
-      i = λ s c on. brought (begins Xtal TimeBase refl s c _ _ on refl) irqLow 128 127 (refl, refl);
-      j = λ s c on p. brought (begins Rc TimeBase refl s c _ _ on p) irqLow 1024 1023 (refl, refl);
+      h = λ s c. brought (begins s c refl refl) flag-set 1024 1023 (refl, refl);
+      i = λ s c on. brought (begins s c on refl) irqLow 128 127 (refl, refl);
+      j = λ s c on p. brought (begins s c on p) irqLow 1024 1023 (refl, refl);
       k = refl;
     }

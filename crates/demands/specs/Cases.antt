@@ -15,7 +15,7 @@ use Rattle.clock.specs.declared.Source.the-variants.{Xtal, Rc}
 use Rattle.rules.specs.declared.IrqSource.{IrqSource}
 use Rattle.rules.specs.declared.IrqSource.the-variants.{TimeBase, Flag}
 use Rattle.rules.specs.declared.Settings.{Settings}
-use Rattle.rules.specs.Ticks.{running, advanced}
+use Rattle.rules.specs.Ticks.{advanced}
 use Rattle.pins.specs.Pins.{irqLow}
 use Rattle.frames.specs.declared.Answer.the-variants.{Nothing, Opened, Refused}
 use Rattle.chip.specs.declared.Chip.{Chip}
@@ -25,11 +25,11 @@ use Rattle.driver.specs.declared.Answer.the-variants.{Written, Refused as Rejec
 use Rattle.driver.specs.Refusals.{writeAnswer}
 use Rattle.driver.specs.Streams.{writeStream, commandStream, decoded}
 
--- Where (h), (i) and (j) begin: the clock's source, running, the time base on, r = 7, cleared, and the source of IRQ. All
--- else of the settings is free.
+-- Where (h), (i) and (j) begin: the clock's source; running, that is, the system on; the time base on; r = 7; cleared; the
+-- source of IRQ. All else of the settings is free.
 pub record Cleared (clock : Source) (source : IrqSource) (s : Settings) : Type 0 where
   pub clocked : s .system .source ≡ clock
-  pub isRunning : running s ≡ true
+  pub systemOn : s .system .on ≡ true
   pub timeBaseOn : s .base .on ≡ true
   pub rateSeven : s .base .rate ≡ 7
   pub dZero : s .counters .timer .divider .count ≡ 0
