@@ -11,7 +11,7 @@ use Rattle.state.specs.Record.{byte, recordValid}
 
 pub record WellFormed (bytes : List ℕ) : Type 0 where
   pub size : length bytes ≡ 64
-  -- nibbles; lines; the frame
+  -- nibbles; lines; the frame, whose count in byte 34 goes by its phase and stands below
   pub memory : (i : ℕ) → i ≤ 31 → byte bytes i ≤ 15
   pub lines : byte bytes 32 ≤ 15
   pub phase : byte bytes 33 ≤ 7
