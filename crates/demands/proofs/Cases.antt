@@ -1,11 +1,15 @@
 -- The cases of 01, computed from the definitions. Assumes nothing.
 use mathlib.Core.Path.{_≡_, _∙_, refl, ap}
+use mathlib.Core.Bool.{Bool, true, false}
 use mathlib.Core.List.{List, [], _∷_}
 use Prim.Native.Nat.{ℕ, _+_, _*_, _≤_}
 use native.Mathlib.Omega.{arith}
 use lib.ListN.{length}
 use borrow.Author.Tests.{le-ltb}
 use Rattle.commands.specs.Commands.{byteMeaning}
+use Rattle.clock.specs.declared.Source.{Source}
+use Rattle.rules.specs.declared.IrqSource.{IrqSource}
+use Rattle.rules.specs.declared.Settings.{Settings}
 use Rattle.rules.specs.Effects.{effect}
 use Rattle.rules.specs.Ticks.{running, ticked, advanced}
 use Rattle.clock.specs.Ticks.{due, timerStepped, baseTicked, prescaledTick, countersTicked}
@@ -15,7 +19,44 @@ use Rattle.chip.specs.Chip.{stepped, moved, framedBy, memoryAfter, settingsAfte
 use Rattle.driver.specs.Refusals.{writeAnswer, outsideMemory}
 use Rattle.driver.specs.Streams.{writeStream, commandStream}
 use Rattle.driver.proofs.StreamsLaws.{write-length}
-use Rattle.demands.specs.Cases.{Cases}
+use Rattle.demands.specs.Cases.{Cleared, Cases}
+
+-- ---- where (h), (i) and (j) begin: what their conditions name are numbers there, and the ticks can be computed
+
+-- settings with these in the places that the conditions name
+abbrev with-conditions : (on : Bool) (clock : Source) (output : Bool) (source : IrqSource) (base : Bool) (rate p d b w : ℕ) (flag : Bool)
+    → Settings → Settings
+with-conditions on clock output source base rate p d b w flag s =
+    record {
+      system = record { on = on; source = clock };
+      lcd = s .lcd;
+      tone = s .tone;
+      irq = record { on = output; source = source };
+      base = record { on = base; rate = rate };
+      counters =
+          record {
+            prescaler = record { count = p };
+            toner = s .counters .toner;
+            timer = record { divider = record { count = d }; base = record { count = b }; watchdog = record { count = w; flag = flag } };
+          };
+      test = s .test;
+    }
+
+begins : {clock : Source} {source : IrqSource} {output : Bool} {p : ℕ} (s : Settings) → Cleared clock source s → s .irq .on ≡ output
+    → s .counters .prescaler .count ≡ p → s ≡ with-conditions true clock output source true 7 p 0 0 0 false s
+begins s c switched prescaled =
+    λ i.
+    with-conditions (c .systemOn i) (c .clocked i) (switched i) (c .irqFrom i) (c .timeBaseOn i) (c .rateSeven i) (prescaled i)
+    (c .dZero i) (c .bZero i) (c .wZero i) (c .flagOff i) s
+
+-- what n ticks bring and m do not from there, they bring and do not bring from here
+brought : {here there : Settings} → here ≡ there → (sign : Settings → Bool) (n m : ℕ)
+    → (sign (advanced n there) ≡ true) × (sign (advanced m there) ≡ false)
+    → (sign (advanced n here) ≡ true) × (sign (advanced m here) ≡ false)
+brought e sign n m from = (ap (λ (s : Settings). sign (advanced n s)) e ∙ from .0, ap (λ (s : Settings). sign (advanced m s)) e ∙ from .1)
+
+abbrev flag-set : Settings → Bool
+flag-set s = s .counters .timer .watchdog .flag
 
 pub cases : Cases
 unfolding byteMeaning effect running ticked advanced due timerStepped baseTicked prescaledTick countersTicked irqLow frame closed stepped moved framedBy memoryAfter settingsAfter obeyedAs writeAnswer outsideMemory writeStream commandStream
@@ -28,8 +69,8 @@ cases =
       e = λ code. refl;
       f = (refl, refl);
       g = λ s. (refl, refl, refl, refl);
-      h = (refl, refl);
-      i = (refl, refl);
-      j = (refl, refl);
+      h = λ s c. brought (begins s c refl refl) flag-set 1024 1023 (refl, refl);
+      i = λ s c on. brought (begins s c on refl) irqLow 128 127 (refl, refl);
+      j = λ s c on p. brought (begins s c on p) irqLow 1024 1023 (refl, refl);
       k = refl;
     }

@@ -5,6 +5,8 @@ pub mod Demand2
 pub mod Demand3
 pub mod Determined
 pub mod Ports
+pub mod Ranges
+pub mod RangesLaws
 pub mod ReadLaws
 pub mod RehearsalLaws
 pub mod SettingsLaws

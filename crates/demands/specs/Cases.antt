@@ -7,11 +7,14 @@ use lib.ListN.{length}
 use Rattle.ground.specs.declared.Refusal.the-variants.{SampleAbove, OutOfRange}
 use Rattle.commands.specs.declared.Bias.the-variants.{Third}
 use Rattle.commands.specs.declared.Commons.the-variants.{Four}
-use Rattle.commands.specs.declared.Command.the-variants.{Xtal32k, SysEn, WdtEn, TimerEn, IrqEn, BiasCom}
+use Rattle.commands.specs.declared.Command.the-variants.{BiasCom}
 use Rattle.commands.specs.declared.Decoded.the-variants.{Undefined, Means}
 use Rattle.commands.specs.Commands.{byteMeaning}
+use Rattle.clock.specs.declared.Source.{Source}
+use Rattle.clock.specs.declared.Source.the-variants.{Xtal, Rc}
+use Rattle.rules.specs.declared.IrqSource.{IrqSource}
+use Rattle.rules.specs.declared.IrqSource.the-variants.{TimeBase, Flag}
 use Rattle.rules.specs.declared.Settings.{Settings}
-use Rattle.rules.specs.Effects.{effect, powerOn}
 use Rattle.rules.specs.Ticks.{advanced}
 use Rattle.pins.specs.Pins.{irqLow}
 use Rattle.frames.specs.declared.Answer.the-variants.{Nothing, Opened, Refused}
@@ -22,19 +25,18 @@ use Rattle.driver.specs.declared.Answer.the-variants.{Written, Refused as Rejec
 use Rattle.driver.specs.Refusals.{writeAnswer}
 use Rattle.driver.specs.Streams.{writeStream, commandStream, decoded}
 
--- The chip running from the crystal at power-on's rate, all counters 0, with the flag or the time base for IRQ.
-abbrev pub crystal : Settings
-crystal = effect IrqEn (effect SysEn (effect Xtal32k powerOn))
-
-abbrev pub byFlag : Settings
-byFlag = effect WdtEn crystal
-
-abbrev pub byTimeBase : Settings
-byTimeBase = effect TimerEn crystal
-
--- And from the RC oscillator.
-abbrev pub byRc : Settings
-byRc = effect TimerEn (effect IrqEn (effect SysEn powerOn))
+-- Where (h), (i) and (j) begin: the clock's source; running, that is, the system on; the time base on; r = 7; cleared; the
+-- source of IRQ. All else of the settings is free.
+pub record Cleared (clock : Source) (source : IrqSource) (s : Settings) : Type 0 where
+  pub clocked : s .system .source ≡ clock
+  pub systemOn : s .system .on ≡ true
+  pub timeBaseOn : s .base .on ≡ true
+  pub rateSeven : s .base .rate ≡ 7
+  pub dZero : s .counters .timer .divider .count ≡ 0
+  pub bZero : s .counters .timer .base .count ≡ 0
+  pub wZero : s .counters .timer .watchdog .count ≡ 0
+  pub flagOff : s .counters .timer .watchdog .flag ≡ false
+  pub irqFrom : s .irq .source ≡ source
 
 pub record Cases : Type 0 where
   -- (a) 15 at power-on answers 0, then 14 answers 1
@@ -52,16 +54,19 @@ pub record Cases : Type 0 where
   pub e : (code : ℕ) → length (commandStream (code ∷ [])) ≡ 27
   -- (f) 2B is 4 commons, 2C is undefined
   pub f : (byteMeaning 0x2B ≡ Means (BiasCom Third Four)) × (byteMeaning 0x2C ≡ Undefined)
-  -- (g) 0D clears b and leaves w, 0F clears both
+  -- (g) 0D makes b 0 and w stays as it was, 0F makes both 0
   pub g : (s : Settings) → (obeyedAs (byteMeaning 0x0D) s .counters .timer .base .count ≡ 0)
       × (obeyedAs (byteMeaning 0x0D) s .counters .timer .watchdog ≡ s .counters .timer .watchdog)
       × (obeyedAs (byteMeaning 0x0F) s .counters .timer .base .count ≡ 0)
       × (obeyedAs (byteMeaning 0x0F) s .counters .timer .watchdog .count ≡ 0)
-  -- (h) the flag is set by tick 1,024 and not by 1,023
-  pub h : (advanced 1024 byFlag .counters .timer .watchdog .flag ≡ true) × (advanced 1023 byFlag .counters .timer .watchdog .flag ≡ false)
-  -- (i) with the time base IRQ is low after tick 128, not after 127
-  pub i : (irqLow (advanced 128 byTimeBase) ≡ true) × (irqLow (advanced 127 byTimeBase) ≡ false)
-  -- (j) at RC it is low after 1,024, not after 1,023
-  pub j : (irqLow (advanced 1024 byRc) ≡ true) × (irqLow (advanced 1023 byRc) ≡ false)
+  -- (h) from the crystal the flag comes with tick 1,024, and not with an earlier one
+  pub h : (s : Settings) → Cleared Xtal Flag s
+      → (advanced 1024 s .counters .timer .watchdog .flag ≡ true) × (advanced 1023 s .counters .timer .watchdog .flag ≡ false)
+  -- (i) with the time base for source and the output on, 128 ticks bring IRQ low and 127 do not
+  pub i : (s : Settings) → Cleared Xtal TimeBase s → s .irq .on ≡ true
+      → (irqLow (advanced 128 s) ≡ true) × (irqLow (advanced 127 s) ≡ false)
+  -- (j) at RC from p = 0 it takes eight times as many
+  pub j : (s : Settings) → Cleared Rc TimeBase s → s .irq .on ≡ true → s .counters .prescaler .count ≡ 0
+      → (irqLow (advanced 1024 s) ≡ true) × (irqLow (advanced 1023 s) ≡ false)
   -- (k) noted 1, 0, 1, 0 is 5
   pub k : decoded (1 ∷ 0 ∷ 1 ∷ 0 ∷ []) ≡ 5 ∷ []
