@@ -21,12 +21,13 @@ use Rattle.chip.specs.Chip.{moved}
 use Rattle.chip.specs.Valid.{Valid}
 use Rattle.state.specs.Record.{chipOf}
 use Rattle.state.proofs.ChipLaws.{valid-chip}
-use Rattle.driver.specs.Streams.{writeStream, readStream, decoded}
-use Rattle.demands.specs.Events.{Event, after, samples, answers, notes}
+use Rattle.driver.specs.Streams.{writeStream, readStream}
+use Rattle.demands.specs.Events.{Event, after, samples, answers, notes, ReadsAs}
 use Rattle.demands.specs.Demand3.{Accepts, completed, Survives, Demand3, Demand3OfRecords}
 use Rattle.demands.proofs.AcceptedLaws.{Fit, accepted-write}
+use Rattle.demands.proofs.NotesLaws.{bits-read}
 use Rattle.demands.proofs.Ports.{Sixteen, runP, trace, high, high-keeps, trace-take, after-port, after-answers}
-use Rattle.demands.proofs.ReadLaws.{notesL, readL, after-notes, read-decodes}
+use Rattle.demands.proofs.ReadLaws.{notesL, readL, after-notes, read-noted}
 use Rattle.demands.proofs.SettingsLaws.{Plain, Unobeyed, take-plain, plain-settings}
 use Rattle.demands.proofs.StreamLevels.{write-levels, read-levels, write-sixteen, read-sixteen, take-sixteen, map-take}
 use Rattle.demands.proofs.TraceLaws.{bitAnswers, bits-plain, nibbleAnswers, write-answers}
@@ -91,12 +92,13 @@ write-done c first ns es fit e =
     ∙ whole-memory (c .port) first ns (fit .inside) (fit .some) (fit .nibbles)
 
 pub read-done : (c : Chip) (first : ℕ) (vs rest : List ℕ) (es : List Event) → Fit first vs → samples es ≡ readStream first (length vs)
-    → drop first (c .port .memory) ≡ vs ++ rest → decoded (notes c es) ≡ vs
+    → drop first (c .port .memory) ≡ vs ++ rest → ReadsAs (notes c es) vs
 read-done c first vs rest es fit e m =
-    ap decoded
-    (after-notes c es (subst Sixteen (sym e) (read-sixteen first (length vs)))
-    ∙ ap (notesL (c .port)) (ap (map levels) e ∙ read-levels first (length vs)))
-    ∙ read-decodes (c .port) first vs rest (fit .some) (fit .inside) (fit .nibbles) m
+    subst (λ noted. ReadsAs noted vs)
+    (sym (after-notes c es (subst Sixteen (sym e) (read-sixteen first (length vs)))
+    ∙ ap (notesL (c .port)) (ap (map levels) e ∙ read-levels first (length vs))
+    ∙ read-noted (c .port) first vs rest (fit .some) (fit .inside) m))
+    (bits-read vs (fit .some) (omega (arith, fit .inside)) (fit .nibbles))
 
 -- ---- the demand
 

@@ -4,6 +4,7 @@ pub mod CommandLaws
 pub mod Demand2
 pub mod Demand3
 pub mod Determined
+pub mod NotesLaws
 pub mod Ports
 pub mod ReadLaws
 pub mod RehearsalLaws

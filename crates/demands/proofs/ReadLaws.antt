@@ -1,5 +1,5 @@
 -- A read's stream, fed to a port: the head leads to the address, each nibble read is one computation, and what the host notes
--- decodes to the memory. Assumes nothing.
+-- are the bits of the memory. Assumes nothing.
 use mathlib.Core.Path.{_≡_, _∙_, refl, sym, ap, ap₂, subst}
 use mathlib.Core.Bool.{Bool, true, false, cond, not, _&&_}
 use mathlib.Core.List.{List, [], _∷_, _++_, map}
@@ -8,7 +8,7 @@ use native.Mathlib.Omega.{arith}
 use lib.Dec.{eqb}
 use lib.ListN.{length, getD, drop}
 use lib.Seq.{getD-drop, drop-drop}
-use Rattle.ground.specs.Bits.{bitAt, bitNumber}
+use Rattle.ground.specs.Bits.{bitAt}
 use Rattle.ground.specs.Values.{values, agree}
 use Rattle.frames.specs.declared.Levels.{Levels}
 use Rattle.frames.specs.declared.Phase.the-variants.{Reading}
@@ -21,11 +21,11 @@ use Rattle.frames.specs.Frames.{next, frame, closed, taken, identTaken, identif
 use Rattle.chip.specs.declared.Port.{Port}
 use Rattle.chip.specs.declared.Chip.{Chip}
 use Rattle.chip.specs.Chip.{memoryAfter, framedBy, moved, stepped}
-use Rattle.chip.specs.Valid.{Nibbles}
-use Rattle.driver.specs.Streams.{readId, addressBits, decoded}
+use Rattle.driver.specs.Streams.{readId, addressBits}
 use Rattle.demands.specs.Events.{Event, sample, tick, happened, samples, dataNumber, notes}
 use Rattle.demands.specs.Demand2.{lastAnswer}
 use Rattle.demands.proofs.Ports.{Sixteen, runP, trace, trace-append, run-append, idle, high, high-idles, high-keeps, stepped-moved}
+use Rattle.demands.proofs.NotesLaws.{bitsOf}
 use Rattle.demands.proofs.StreamLevels.{up, bitsL, headL, readsL}
 use Rattle.demands.proofs.SettingsLaws.{Plain, Unobeyed}
 use Rattle.demands.proofs.TraceLaws.{bitAnswers, bits-plain}
@@ -93,31 +93,22 @@ same-address first h = address-bits first h ∙ omega arith
 
 -- ---- the nibbles
 
-abbrev fromBits : ℕ → ℕ
-fromBits n = bitNumber (bitAt 0 n) + 2 * bitNumber (bitAt 1 n) + 4 * bitNumber (bitAt 2 n) + 8 * bitNumber (bitAt 3 n)
-
-nibbles : values fromBits 0 16 ≡ values (λ n. n) 0 16
-nibbles = refl
-
-from-bits : (n : ℕ) → n < 16 → fromBits n ≡ n
-from-bits n h = agree fromBits (λ k. k) 16 nibbles n h
-
 read-nibble : (b : Bool) (line : Line) (m : List ℕ) (a n : ℕ)
-    → decoded (notesL (offering b line m a) (readsL (suc n)))
-    ≡ fromBits (getD m a 0) ∷ decoded (notesL (offering true (Driven (bitAt 3 (getD m a 0))) m (next a)) (readsL n))
+    → notesL (offering b line m a) (readsL (suc n))
+    ≡ bitsOf (getD m a 0 ∷ []) ++ notesL (offering true (Driven (bitAt 3 (getD m a 0))) m (next a)) (readsL n)
 unfolding moved framedBy frame offered readOffered memoryAfter
 read-nibble b line m a n = refl
 
 -- the memory from a on begins with vs
-reads-decode : (vs rest : List ℕ) (b : Bool) (line : Line) (m : List ℕ) (a : ℕ) → a + length vs ≤ 32 → Nibbles vs → drop a m ≡ vs ++ rest
-    → decoded (notesL (offering b line m (a % 32)) (readsL (length vs))) ≡ vs
+reads-noted : (vs rest : List ℕ) (b : Bool) (line : Line) (m : List ℕ) (a : ℕ) → a + length vs ≤ 32 → drop a m ≡ vs ++ rest
+    → notesL (offering b line m (a % 32)) (readsL (length vs)) ≡ bitsOf vs
 unfolding moved framedBy frame closed
-reads-decode [] rest b line m a h v e = refl
-reads-decode (n ∷ vs) rest b line m a h v e =
+reads-noted [] rest b line m a h e = refl
+reads-noted (n ∷ vs) rest b line m a h e =
     read-nibble b line m (a % 32) (length vs)
-    ∙ ap₂ _∷_ here
-    (ap (λ (x : ℕ). decoded (notesL (offering true (Driven (bitAt 3 (getD m (a % 32) 0))) m x) (readsL (length vs)))) (next-mod a)
-    ∙ reads-decode vs rest true (Driven (bitAt 3 (getD m (a % 32) 0))) m (suc a) (omega arith) (v .1) there)
+    ∙ ap₂ (λ (x : ℕ) (noted : List ℕ). bitsOf (x ∷ []) ++ noted) at
+    (ap (λ (x : ℕ). notesL (offering true (Driven (bitAt 3 (getD m (a % 32) 0))) m x) (readsL (length vs))) (next-mod a)
+    ∙ reads-noted vs rest true (Driven (bitAt 3 (getD m (a % 32) 0))) m (suc a) (omega arith) there)
   where
     small : a % 32 ≡ a + 0
     small = omega arith
@@ -125,25 +116,21 @@ reads-decode (n ∷ vs) rest b line m a h v e =
     at : getD m (a % 32) 0 ≡ n
     at = ap (λ (x : ℕ). getD m x 0) small ∙ sym (getD-drop a m 0 0) ∙ ap (λ (l : List ℕ). getD l 0 0) e
 
-    here : fromBits (getD m (a % 32) 0) ≡ n
-    here = ap fromBits at ∙ from-bits n (v .0)
-
     one : suc a ≡ a + 1
     one = omega arith
 
     there : drop (suc a) m ≡ vs ++ rest
     there = ap (λ (x : ℕ). drop x m) one ∙ sym (drop-drop 1 a m) ∙ ap (drop 1) e
 
-pub read-decodes : (p : Port) (first : ℕ) (vs rest : List ℕ) → 0 < length vs → first + length vs ≤ 32 → Nibbles vs
-    → drop first (p .memory) ≡ vs ++ rest → decoded (notesL p (readL first (length vs))) ≡ vs
-read-decodes p first vs rest some h v e =
-    ap decoded
-    (not-noted (p .levels .rd) _ _
+pub read-noted : (p : Port) (first : ℕ) (vs rest : List ℕ) → 0 < length vs → first + length vs ≤ 32
+    → drop first (p .memory) ≡ vs ++ rest → notesL p (readL first (length vs)) ≡ bitsOf vs
+read-noted p first vs rest some h e =
+    not-noted (p .levels .rd) _ _
     ∙ ap (λ (q : Port). notesL q (restL first ++ readsL (length vs))) (high-idles p)
     ∙ head-notes (p .memory) first (readsL (length vs))
     ∙ ap (λ (q : Port). notesL q (readsL (length vs))) (reached-by (p .memory) first)
-    ∙ ap (λ (x : ℕ). notesL (offering (bitAt 0 first) Released (p .memory) x) (readsL (length vs))) (same-address first (omega arith)))
-    ∙ reads-decode vs rest (bitAt 0 first) Released (p .memory) first h v e
+    ∙ ap (λ (x : ℕ). notesL (offering (bitAt 0 first) Released (p .memory) x) (readsL (length vs))) (same-address first (omega arith))
+    ∙ reads-noted vs rest (bitAt 0 first) Released (p .memory) first h e
 
 -- ---- neither memory nor settings
 

@@ -15,8 +15,8 @@ use Rattle.chip.specs.Valid.{Valid}
 use Rattle.state.specs.Record.{recordValid, chipOf}
 use Rattle.driver.specs.declared.Answer.the-variants.{Written}
 use Rattle.driver.specs.Refusals.{writeAnswer}
-use Rattle.driver.specs.Streams.{writeStream, readStream, decoded}
-use Rattle.demands.specs.Events.{Event, after, samples, ticks, notes}
+use Rattle.driver.specs.Streams.{writeStream, readStream}
+use Rattle.demands.specs.Events.{Event, after, samples, ticks, notes, ReadsAs}
 
 -- The driver accepts the write: given room for it, it writes the stream.
 abbrev pub Accepts : ℕ → List ℕ → Type 0
@@ -35,7 +35,7 @@ pub record Survives (chip : Chip) (first : ℕ) (nibbles : List ℕ) (k : ℕ) (
   pub resent : (again : List Event) → samples again ≡ writeStream first nibbles
       → after (after chip events) again .port .memory ≡ paste (chip .port .memory) first nibbles (length nibbles)
   pub readBack : (again back : List Event) → samples again ≡ writeStream first nibbles
-      → samples back ≡ readStream first (length nibbles) → decoded (notes (after (after chip events) again) back) ≡ nibbles
+      → samples back ≡ readStream first (length nibbles) → ReadsAs (notes (after (after chip events) again) back) nibbles
 
 abbrev pub Demand3 : Type 0
 Demand3 =
