@@ -28,24 +28,25 @@ unfoldable pub completed : ℕ → ℕ → ℕ
 completed zero k = 0
 completed (suc n) k = cond (leb (20 + 8 * suc n) k) 1 0 + completed n k
 
--- What stands after the stop. `paste m first nibbles n` is m with the first n of the nibbles over it from first on.
-pub record Survives (chip : Chip) (first : ℕ) (nibbles : List ℕ) (k : ℕ) (events : List Event) : Type 0 where
-  pub memory : after chip events .port .memory ≡ paste (chip .port .memory) first nibbles (completed (length nibbles) k)
-  pub settings : after chip events .settings ≡ advanced (ticks events) (chip .settings)
+-- What stands after k samples and some ticks, the chip having been left as `stopped`. `paste m first nibbles n` is m with the
+-- first n of the nibbles over it from first on.
+pub record Survives (chip : Chip) (first : ℕ) (nibbles : List ℕ) (k passed : ℕ) (stopped : Chip) : Type 0 where
+  pub memory : stopped .port .memory ≡ paste (chip .port .memory) first nibbles (completed (length nibbles) k)
+  pub settings : stopped .settings ≡ advanced passed (chip .settings)
   pub resent : (again : List Event) → samples again ≡ writeStream first nibbles
-      → after (after chip events) again .port .memory ≡ paste (chip .port .memory) first nibbles (length nibbles)
+      → after stopped again .port .memory ≡ paste (chip .port .memory) first nibbles (length nibbles)
   pub readBack : (again back : List Event) → samples again ≡ writeStream first nibbles
-      → samples back ≡ readStream first (length nibbles) → ReadsAs (notes (after (after chip events) again) back) nibbles
+      → samples back ≡ readStream first (length nibbles) → ReadsAs (notes (after stopped again) back) nibbles
 
 abbrev pub Demand3 : Type 0
 Demand3 =
     (chip : Chip) (first : ℕ) (nibbles : List ℕ) (k : ℕ) (events : List Event)
     → Valid chip → Accepts first nibbles → samples events ≡ take k (writeStream first nibbles)
-    → Survives chip first nibbles k events
+    → Survives chip first nibbles k (ticks events) (after chip events)
 
 -- "Any valid state" means any valid record: the same of the chip that such bytes say.
 abbrev pub Demand3OfRecords : Type 0
 Demand3OfRecords =
     (bytes : List ℕ) (first : ℕ) (nibbles : List ℕ) (k : ℕ) (events : List Event)
     → recordValid bytes ≡ true → Accepts first nibbles → samples events ≡ take k (writeStream first nibbles)
-    → Survives (chipOf bytes) first nibbles k events
+    → Survives (chipOf bytes) first nibbles k (ticks events) (after (chipOf bytes) events)
