@@ -10,20 +10,16 @@ use lib.ListN.{length, take, drop, length-take}
 use lib.Seq.{sets, sets-eq, paste, drop-at, length-take-le, take-all}
 use borrow.Author.Tests.{leb-true, leb-false}
 use Rattle.frames.specs.declared.Levels.{Levels}
-use Rattle.frames.specs.declared.Act.{Act}
-use Rattle.frames.specs.declared.Act.the-variants.{Keep}
 use Rattle.frames.specs.declared.Answer.{Answer}
+use Rattle.frames.specs.declared.Answer.the-variants.{Opened}
 use Rattle.frames.specs.Samples.{levels}
-use Rattle.frames.specs.Answers.{act}
 use Rattle.chip.specs.declared.Port.{Port}
 use Rattle.chip.specs.declared.Chip.{Chip}
 use Rattle.chip.specs.Chip.{moved}
 use Rattle.chip.specs.Valid.{Valid}
-use Rattle.state.specs.Record.{chipOf}
-use Rattle.state.proofs.ChipLaws.{valid-chip}
 use Rattle.driver.specs.Streams.{writeStream, readStream}
 use Rattle.demands.specs.Events.{Event, after, samples, answers, notes, ReadsAs}
-use Rattle.demands.specs.Demand3.{Accepts, completed, Survives, Demand3, Demand3OfRecords}
+use Rattle.demands.specs.Demand3.{Accepts, completed, Survives, Demand3}
 use Rattle.demands.proofs.AcceptedLaws.{Fit, accepted-write}
 use Rattle.demands.proofs.NotesLaws.{bits-read}
 use Rattle.demands.proofs.Ports.{Sixteen, runP, trace, high, high-keeps, trace-take, after-port, after-answers}
@@ -68,19 +64,19 @@ sets-whole m first ns h =
     ∙ sets-paste m first (length ns) ns h
     ∙ ap (paste m first ns) all
 
--- ---- a write's answers obey nothing
+-- ---- a stream that opens, and a write, obey nothing
 
-pub keep-plain : (a : Act) → a ≡ Keep → Unobeyed a
-keep-plain a e = subst Unobeyed (sym e) tt
+pub opened-plain : (p : Port) (bits : ℕ) (rest : List Answer) → Plain rest → Plain (moved p high .answer ∷ Opened ∷ bitAnswers bits ++ rest)
+opened-plain p bits rest v = (subst Unobeyed (sym (high-keeps p)) tt, (tt, bits-plain bits rest v))
 
-nibbles-plain : (at : ℕ) (ns : List ℕ) → Plain (nibbleAnswers at ns)
+pub nibbles-plain : (at : ℕ) (ns : List ℕ) → Plain (nibbleAnswers at ns)
 nibbles-plain at [] = (tt, tt)
 nibbles-plain at (n ∷ ns) = (tt, (tt, (tt, (tt, (tt, (tt, (tt, (tt, nibbles-plain (at + 1) ns))))))))
 
-pub write-plain : (p : Port) (first : ℕ) (ns : List ℕ) → Fit first ns → Plain (trace p (writeL first ns))
+write-plain : (p : Port) (first : ℕ) (ns : List ℕ) → Fit first ns → Plain (trace p (writeL first ns))
 write-plain p first ns fit =
     subst Plain (sym (write-answers p first ns (fit .inside) (fit .some) (fit .nibbles)))
-    (keep-plain (act (moved p high .answer)) (high-keeps p), (tt, bits-plain 9 (nibbleAnswers first ns) (nibbles-plain first ns)))
+    (opened-plain p 9 (nibbleAnswers first ns) (nibbles-plain first ns))
 
 -- ---- whole streams, with ticks anywhere
 
@@ -146,7 +142,3 @@ demand3 c first ns k es valid accepts e =
     mended : (again : List Event) → samples again ≡ writeStream first ns → after (after c es) again .port .memory ≡ sets m first ns
     mended again e₁ =
         write-done (after c es) first ns again fit e₁ ∙ ap (λ (l : List ℕ). sets l first ns) stopped ∙ sets-again x ns m first
-
--- a valid record says a valid chip
-pub demand3-of-records : Demand3OfRecords
-demand3-of-records bytes first ns k es valid accepts e = demand3 (chipOf bytes) first ns k es (valid-chip bytes valid) accepts e

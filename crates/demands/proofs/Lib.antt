@@ -1,12 +1,16 @@
 pub mod AcceptedLaws
+pub mod CallsLaws
 pub mod Cases
 pub mod CommandLaws
 pub mod Demand2
 pub mod Demand3
 pub mod Determined
+pub mod EventsLaws
 pub mod NotesLaws
 pub mod Ports
 pub mod ReadLaws
+pub mod RecordLaws
+pub mod Records
 pub mod RehearsalLaws
 pub mod SettingsLaws
 pub mod StreamLevels

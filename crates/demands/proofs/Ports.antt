@@ -96,6 +96,10 @@ module _ (p : Port) where
   unfolding moved framedBy memoryAfter
   high-idles = simp (by-before (p .levels .cs), closing-act)
 
+  pub high-answer : moved p high .answer ≡ cond (p .levels .cs) Nothing (cond (eqb (unfinished (p .phase)) 0) Closed Dropped)
+  unfolding moved framedBy
+  high-answer = simp (by-before (p .levels .cs))
+
   -- and what it is answered changes neither memory nor settings
   pub high-keeps : act (moved p high .answer) ≡ Keep
   unfolding moved framedBy

@@ -10,9 +10,8 @@ use native.Mathlib.Numerals.{add-one}
 use lib.ListN.{length, take, drop, getD, replicate, drop-of-length-le}
 use lib.Seq.{drop-cons, take-nil}
 use borrow.Author.Tests.{le-ltb}
-use Rattle.rules.specs.Ticks as rules
 use Rattle.chip.specs.declared.Chip.{Chip}
-use Rattle.chip.specs.Chip.{stepped, ticked, advanced}
+use Rattle.chip.specs.Chip.{stepped, advanced}
 use Rattle.chip.specs.Valid.{Valid}
 use Rattle.ground.specs.declared.Refusal.{Refusal}
 use Rattle.ground.specs.Places.{somewhere}
@@ -27,12 +26,7 @@ use Rattle.demands.specs.Demand3.{Accepts, Survives}
 use Rattle.demands.specs.Rehearsal.{paced, stopped, Rehearses, Demand3OfRehearsals}
 use Rattle.demands.proofs.AcceptedLaws.{written-fits, buffer-holds}
 use Rattle.demands.proofs.Demand3.{demand3}
-
--- some ticks in a row
-after-pause : (n : ℕ) (c : Chip) (es : List Event) → after c (replicate n tick ++ es) ≡ after (advanced n c) es
-unfolding rules.advanced
-after-pause zero c es = refl
-after-pause (suc n) c es = after-pause n (ticked c) es
+use Rattle.demands.proofs.EventsLaws.{after-pause, samples-pause, ticks-pause}
 
 module _ (c : Chip) (ss : List ℕ) (stop pause i : ℕ) where
   -- one sample more, and its pause
@@ -56,24 +50,16 @@ module _ (c : Chip) (ss : List ℕ) (stop pause i : ℕ) where
 
 -- ---- demand 3 of a rehearsal
 
-ticks-samples : (n : ℕ) (es : List Event) → samples (replicate n tick ++ es) ≡ samples es
-ticks-samples zero es = refl
-ticks-samples (suc n) es = ticks-samples n es
-
 paced-samples : (pause : ℕ) (ss : List ℕ) → samples (paced pause ss) ≡ ss
 paced-samples pause [] = refl
-paced-samples pause (s ∷ ss) = ap (λ (l : List ℕ). s ∷ l) (ticks-samples pause (paced pause ss) ∙ paced-samples pause ss)
-
-pauses : (n : ℕ) (es : List Event) → ticks (replicate n tick ++ es) ≡ n + ticks es
-pauses zero es = omega arith
-pauses (suc n) es = let h = pauses n es in omega arith
+paced-samples pause (s ∷ ss) = ap (λ (l : List ℕ). s ∷ l) (samples-pause pause (paced pause ss) ∙ paced-samples pause ss)
 
 paced-ticks : (pause : ℕ) (ss : List ℕ) → ticks (paced pause ss) ≡ length ss * pause
 paced-ticks pause [] = omega arith
 paced-ticks pause (s ∷ ss) =
     let h = paced-ticks pause ss in
     let more = suc-mul (length ss) pause in
-    pauses pause (paced pause ss) ∙ omega arith
+    ticks-pause pause (paced pause ss) ∙ omega arith
 
 -- a success stays one where only what comes after a test is another
 still : (test : Bool) (why : Refusal) {rest rest' : Answer} {n m : ℕ} → refusedIf test why rest ≡ Written n

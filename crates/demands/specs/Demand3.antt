@@ -3,7 +3,7 @@
 -- completed by then, and the old ones elsewhere; the settings and counters are what the ticks alone make of them; resending
 -- mends it, and reading back returns the new values. Assumes nothing.
 use mathlib.Core.Path.{_≡_}
-use mathlib.Core.Bool.{true, cond}
+use mathlib.Core.Bool.{cond}
 use mathlib.Core.List.{List}
 use Prim.Native.Nat.{ℕ, zero, suc, _+_, _*_}
 use lib.Dec.{leb}
@@ -12,7 +12,6 @@ use lib.Seq.{paste}
 use Rattle.rules.specs.Ticks.{advanced}
 use Rattle.chip.specs.declared.Chip.{Chip}
 use Rattle.chip.specs.Valid.{Valid}
-use Rattle.state.specs.Record.{recordValid, chipOf}
 use Rattle.driver.specs.declared.Answer.the-variants.{Written}
 use Rattle.driver.specs.Refusals.{writeAnswer}
 use Rattle.driver.specs.Streams.{writeStream, readStream}
@@ -43,10 +42,3 @@ Demand3 =
     (chip : Chip) (first : ℕ) (nibbles : List ℕ) (k : ℕ) (events : List Event)
     → Valid chip → Accepts first nibbles → samples events ≡ take k (writeStream first nibbles)
     → Survives chip first nibbles k (ticks events) (after chip events)
-
--- "Any valid state" means any valid record: the same of the chip that such bytes say.
-abbrev pub Demand3OfRecords : Type 0
-Demand3OfRecords =
-    (bytes : List ℕ) (first : ℕ) (nibbles : List ℕ) (k : ℕ) (events : List Event)
-    → recordValid bytes ≡ true → Accepts first nibbles → samples events ≡ take k (writeStream first nibbles)
-    → Survives (chipOf bytes) first nibbles k (ticks events) (after (chipOf bytes) events)
