@@ -3,9 +3,9 @@
 use mathlib.Core.Path.{_≡_, _∙_, refl, sym, ap, ap₂, subst}
 use mathlib.Core.Bool.{Bool, true, false, cond}
 use mathlib.Core.List.{List, [], _∷_, _++_, map}
-use Prim.Native.Nat.{ℕ, zero, suc, _+_, _≤_}
+use Prim.Native.Nat.{ℕ, _+_, _≤_}
 use lib.Dec.{ltb}
-use lib.ListN.{length, take, drop, getD, replicate}
+use lib.ListN.{take, drop, getD, replicate}
 use lib.Seq.{take-at, take-append-add, drop-append-add, getD-append-add}
 use borrow.Author.Tests.{le-ltb, ltb-true}
 use Rattle.frames.specs.declared.Levels.{Levels}
@@ -19,12 +19,11 @@ use Rattle.chip.specs.Chip.{stepped, advanced}
 use Rattle.chip.specs.Valid.{Valid}
 use Rattle.chip.proofs.ValidLaws.{stepped-valid, refused-keeps, ticked-valid, advanced-valid}
 use Rattle.place.specs.Place.{answerCode}
-use Rattle.state.specs.FrameCodes.{linesNumber}
-use Rattle.state.specs.Record.{frameBytes, settingsBytes, byte, tailOf, recordOf, recordValid, chipOf}
+use Rattle.state.specs.Record.{frameBytes, settingsBytes, byte, tailOf, recordOf}
 use Rattle.state.proofs.ChipLaws.{chip-valid, chip-again}
 use Rattle.state.proofs.CodesLaws.{levels-back}
 use Rattle.simulator.specs.Simulator.{stepReturns, stepBytes, advanceBytes}
-use Rattle.demands.specs.Events.{Event, sample, tick, happened, after, samples, answers, dataNumber, notes}
+use Rattle.demands.specs.Events.{Event, sample, tick, happened, after, answers, dataNumber, notes}
 use Rattle.demands.specs.Calls.{Call, step, advance, afterCalls, eventsOf, sent, returns, dataNoted, noted}
 use Rattle.demands.proofs.EventsLaws.{after-pause, answers-pause, notes-pause, samples-pause}
 use Rattle.demands.proofs.Ports.{Sixteen}

@@ -17,7 +17,7 @@ use Rattle.chip.specs.declared.Chip.{Chip}
 use Rattle.chip.specs.Chip.{moved}
 use Rattle.chip.specs.Valid.{Nibbles, Valid}
 use Rattle.driver.specs.Streams.{writeStream, readStream, commandStream}
-use Rattle.demands.specs.Events.{Event, after, samples, answers}
+use Rattle.demands.specs.Events.{Event, samples, answers}
 use Rattle.demands.specs.Demand2.{StoredAt, ObeyedAt, storedBy, stores, dueStores, obeyedBy, obeys, dueCommands, lastAnswer, between, Writes, Reads, Commands, Demand2}
 use Rattle.demands.proofs.AcceptedLaws.{Fit, accepted-write, accepted-read, accepted-commands}
 use Rattle.demands.proofs.CommandLaws.{Defined, commandsAnswers, commandL, command-memory, stream-answers}

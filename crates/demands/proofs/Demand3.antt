@@ -3,7 +3,7 @@
 use mathlib.Core.Path.{_≡_, _∙_, refl, sym, ap, subst}
 use mathlib.Core.Bool.{Bool, true, false, cond}
 use mathlib.Core.List.{List, [], _∷_, _++_, append-assoc, map}
-use Prim.Native.Nat.{ℕ, zero, suc, _+_, _-_, _*_, _/_, _≤_, _<_, min}
+use Prim.Native.Nat.{ℕ, zero, suc, _+_, _-_, _/_, _≤_, min}
 use native.Mathlib.Omega.{arith}
 use lib.Dec.{leb}
 use lib.ListN.{length, take, drop, length-take}
@@ -16,14 +16,13 @@ use Rattle.frames.specs.Samples.{levels}
 use Rattle.chip.specs.declared.Port.{Port}
 use Rattle.chip.specs.declared.Chip.{Chip}
 use Rattle.chip.specs.Chip.{moved}
-use Rattle.chip.specs.Valid.{Valid}
 use Rattle.driver.specs.Streams.{writeStream, readStream}
 use Rattle.demands.specs.Events.{Event, after, samples, answers, notes, ReadsAs}
-use Rattle.demands.specs.Demand3.{Accepts, completed, Survives, Demand3}
+use Rattle.demands.specs.Demand3.{completing, completed, Demand3}
 use Rattle.demands.proofs.AcceptedLaws.{Fit, accepted-write}
 use Rattle.demands.proofs.NotesLaws.{bits-read}
 use Rattle.demands.proofs.Ports.{Sixteen, runP, trace, high, high-keeps, trace-take, after-port, after-answers}
-use Rattle.demands.proofs.ReadLaws.{notesL, readL, after-notes, read-noted}
+use Rattle.demands.proofs.ReadLaws.{notesL, after-notes, read-noted}
 use Rattle.demands.proofs.SettingsLaws.{Plain, Unobeyed, take-plain, plain-settings}
 use Rattle.demands.proofs.StreamLevels.{write-levels, read-levels, write-sixteen, read-sixteen, take-sixteen, map-take}
 use Rattle.demands.proofs.TraceLaws.{bitAnswers, bits-plain, nibbleAnswers, write-answers}
@@ -34,12 +33,12 @@ use Rattle.demands.proofs.WriteLaws.{writeL, write-memory, whole-memory
 completed-is : (n k : ℕ) → completed n k ≡ min ((k - 20) / 8) n
 unfolding completed
 completed-is zero k = omega arith
-completed-is (suc n) k = count (leb (20 + 8 * suc n) k) (completed n k) refl (completed-is n k)
+completed-is (suc n) k = count (leb (completing (suc n)) k) (completed n k) refl (completed-is n k)
   where
-    count : (b : Bool) (done : ℕ) → leb (20 + 8 * suc n) k ≡ b → done ≡ min ((k - 20) / 8) n
+    count : (b : Bool) (done : ℕ) → leb (completing (suc n)) k ≡ b → done ≡ min ((k - 20) / 8) n
         → cond b 1 0 + done ≡ min ((k - 20) / 8) (suc n)
-    count true done e ih = omega (arith, leb-true (20 + 8 * suc n) k e)
-    count false done e ih = omega (arith, leb-false (20 + 8 * suc n) k e)
+    count true done e ih = omega (arith, leb-true (completing (suc n)) k e)
+    count false done e ih = omega (arith, leb-false (completing (suc n)) k e)
 
 -- ---- one store after another, as one paste
 

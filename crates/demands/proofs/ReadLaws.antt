@@ -3,7 +3,7 @@
 use mathlib.Core.Path.{_≡_, _∙_, refl, sym, ap, ap₂}
 use mathlib.Core.Bool.{Bool, true, false, cond, not, _&&_}
 use mathlib.Core.List.{List, [], _∷_, _++_, map}
-use Prim.Native.Nat.{ℕ, zero, suc, _+_, _*_, _%_, _≤_, _<_}
+use Prim.Native.Nat.{ℕ, zero, suc, _+_, _%_, _≤_, _<_}
 use native.Mathlib.Omega.{arith}
 use lib.Dec.{eqb}
 use lib.ListN.{length, getD, drop}
@@ -20,7 +20,7 @@ use Rattle.frames.specs.Samples.{levels}
 use Rattle.frames.specs.Frames.{next, frame, closed, taken, identTaken, identified, readToTaken, offered, readOffered}
 use Rattle.chip.specs.declared.Port.{Port}
 use Rattle.chip.specs.declared.Chip.{Chip}
-use Rattle.chip.specs.Chip.{memoryAfter, framedBy, moved, stepped}
+use Rattle.chip.specs.Chip.{memoryAfter, framedBy, moved}
 use Rattle.driver.specs.Streams.{readId, addressBits}
 use Rattle.demands.specs.Events.{Event, sample, tick, happened, samples, dataNumber, notes}
 use Rattle.demands.specs.Demand2.{lastAnswer}

@@ -12,7 +12,7 @@ use Rattle.rules.specs.declared.Settings.{Settings}
 use Rattle.rules.specs.Ticks as ticks
 use Rattle.frames.specs.declared.Levels.{Levels}
 use Rattle.frames.specs.declared.Answer.{Answer}
-use Rattle.frames.specs.declared.Answer.the-variants.{Nothing, Opened, Closed, Dropped, Obeyed}
+use Rattle.frames.specs.declared.Answer.the-variants.{Nothing, Opened, Closed, Dropped, Stored, Obeyed}
 use Rattle.frames.specs.Samples.{levels}
 use Rattle.frames.specs.Answers.{unfinished}
 use Rattle.chip.specs.declared.Chip.{Chip}
@@ -44,7 +44,7 @@ bits-told (suc k) rest = ap (λ (told : List ℕ). 0 ∷ 4 ∷ told) (bits-told 
 pub nibbles-told : (at : ℕ) (ns : List ℕ) → map answerCode (nibbleAnswers at ns) ≡ nibbleReturns at ns
 unfolding answerCode
 nibbles-told at [] = refl
-nibbles-told at (n ∷ ns) = ap (λ (told : List ℕ). bitReturns 3 ++ 0 ∷ (5 + 256 * at + 65536 * n) ∷ told) (nibbles-told (at + 1) ns)
+nibbles-told at (n ∷ ns) = ap (λ (told : List ℕ). bitReturns 3 ++ 0 ∷ answerCode (Stored at n) ∷ told) (nibbles-told (at + 1) ns)
 
 pub offers-told : (at : ℕ) (vs : List ℕ) → map answerCode (readAnswers at vs) ≡ readReturns at vs
 unfolding answerCode

@@ -2,17 +2,16 @@
 -- of the chip that it returns. Assumes nothing.
 use mathlib.Core.Path.{_≡_, _∙_, refl, sym, ap, subst}
 use mathlib.Core.Bool.{Bool, true, false}
-use mathlib.Core.List.{List, [], _∷_, _++_}
-use Prim.Native.Nat.{ℕ, zero, suc, _+_, _-_, _*_, _≤_, _<_}
+use mathlib.Core.List.{List, [], _∷_}
+use Prim.Native.Nat.{ℕ, suc, _+_, _-_, _*_, _≤_, _<_}
 use native.Mathlib.Omega.{arith}
 use native.Mathlib.Nat.{suc-mul}
 use native.Mathlib.Numerals.{add-one}
-use lib.ListN.{length, take, drop, getD, replicate, drop-of-length-le}
+use lib.ListN.{length, take, drop, getD, drop-of-length-le}
 use lib.Seq.{drop-cons, take-nil}
 use borrow.Author.Tests.{le-ltb}
 use Rattle.chip.specs.declared.Chip.{Chip}
 use Rattle.chip.specs.Chip.{stepped, advanced}
-use Rattle.chip.specs.Valid.{Valid}
 use Rattle.ground.specs.declared.Refusal.{Refusal}
 use Rattle.ground.specs.Places.{somewhere}
 use Rattle.ground.specs.Written.{over}
@@ -21,7 +20,7 @@ use Rattle.driver.specs.declared.Answer.{Answer}
 use Rattle.driver.specs.declared.Answer.the-variants.{Written, Refused}
 use Rattle.driver.specs.Refusals.{nothing, outsideMemory, nibbleFault, refusedIf, fitted, writeAnswer, left, Does}
 use Rattle.driver.specs.Streams.{writeStream}
-use Rattle.demands.specs.Events.{Event, sample, tick, happened, after, samples, ticks}
+use Rattle.demands.specs.Events.{after, samples, ticks}
 use Rattle.demands.specs.Demand3.{Accepts, Survives}
 use Rattle.demands.specs.Rehearsal.{paced, stopped, Rehearses, Demand3OfRehearsals}
 use Rattle.demands.proofs.AcceptedLaws.{written-fits, buffer-holds}

@@ -2,14 +2,13 @@
 use mathlib.Core.Path.{_≡_, _∙_, refl, sym, ap}
 use mathlib.Core.Bool.{Bool, true, false}
 use mathlib.Core.List.{List, [], _∷_, _++_, map}
-use Prim.Native.Nat.{ℕ, zero, suc, _≤_}
+use Prim.Native.Nat.{ℕ, zero, suc}
 use native.Mathlib.Omega.{arith}
 use lib.ListN.{take}
-use Rattle.ground.specs.Bits.{bitAt}
 use Rattle.frames.specs.declared.Levels.{Levels}
 use Rattle.frames.specs.Samples.{levels}
 use Rattle.chip.specs.declared.Port.{Port}
-use Rattle.driver.specs.Streams.{sendBit, sendBits, readBit, opening, closing, writeId, readId, commandId, addressBits, nibbleBits, commandBits, sendNibbles, readNibbles, sendCommands, writeStream, readStream, commandStream}
+use Rattle.driver.specs.Streams.{sendBits, opening, writeId, readId, commandId, addressBits, nibbleBits, commandBits, sendNibbles, readNibbles, sendCommands, writeStream, readStream, commandStream}
 use Rattle.demands.proofs.Ports.{Sixteen, runP, idle, high, high-idles}
 
 -- the two samples of a sent bit, and the lower of a read one

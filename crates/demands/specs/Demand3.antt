@@ -22,10 +22,13 @@ abbrev pub Accepts : ℕ → List ℕ → Type 0
 Accepts first nibbles =
     writeAnswer first nibbles (length (writeStream first nibbles)) ≡ Written (length (writeStream first nibbles))
 
--- How many of n nibbles are complete after k samples: nibble i, from 1, at sample 20 + 8i and not before.
+-- The sample that completes nibble i, from 1; and how many of n nibbles are complete after k samples.
+abbrev pub completing : ℕ → ℕ
+completing i = 20 + 8 * i
+
 unfoldable pub completed : ℕ → ℕ → ℕ
 completed zero k = 0
-completed (suc n) k = cond (leb (20 + 8 * suc n) k) 1 0 + completed n k
+completed (suc n) k = cond (leb (completing (suc n)) k) 1 0 + completed n k
 
 -- What stands after k samples and some ticks, the chip having been left as `stopped`. `paste m first nibbles n` is m with the
 -- first n of the nibbles over it from first on.
