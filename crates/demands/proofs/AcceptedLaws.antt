@@ -16,8 +16,8 @@ use Rattle.ground.proofs.WrittenLaws.{take-over}
 use Rattle.ground.proofs.PlacesLaws.{lowest-below, none-above}
 use Rattle.commands.specs.Commands.{codeMeaning, undefined}
 use Rattle.chip.specs.Valid.{Nibbles}
-use Rattle.driver.specs.declared.Answer.{Answer}
-use Rattle.driver.specs.declared.Answer.the-variants.{Written, Refused}
+use Rattle.ground.specs.declared.Outcome.{Outcome}
+use Rattle.ground.specs.declared.Outcome.the-variants.{Written, Refused}
 use Rattle.driver.specs.Refusals.{nothing, outsideMemory, tooMany, nibbleFault, commandFault, refusedIf, fitted, left, writeAnswer, readAnswer, commandAnswer}
 use Rattle.driver.specs.Streams.{writeStream, readStream, commandStream}
 use Rattle.driver.proofs.RefusalsLaws.{inside}

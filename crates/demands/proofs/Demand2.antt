@@ -17,17 +17,16 @@ use Rattle.chip.specs.declared.Chip.{Chip}
 use Rattle.chip.specs.Chip.{moved}
 use Rattle.chip.specs.Valid.{Nibbles, Valid}
 use Rattle.driver.specs.Streams.{writeStream, readStream, commandStream}
-use Rattle.demands.specs.Events.{Event, after, samples, answers}
+use Rattle.demands.specs.Events.{Event, samples, answers}
 use Rattle.demands.specs.Demand2.{StoredAt, ObeyedAt, storedBy, stores, dueStores, obeyedBy, obeys, dueCommands, lastAnswer, between, Writes, Reads, Commands, Demand2}
 use Rattle.demands.proofs.AcceptedLaws.{Fit, accepted-write, accepted-read, accepted-commands}
 use Rattle.demands.proofs.CommandLaws.{Defined, commandsAnswers, commandL, command-memory, stream-answers}
-use Rattle.demands.proofs.Demand3.{sets-whole, write-plain, write-done, read-done, keep-plain}
+use Rattle.demands.proofs.Demand3.{sets-whole, opened-plain, nibbles-plain, write-done, read-done}
 use Rattle.demands.proofs.Ports.{Sixteen, runP, trace, high, high-keeps, after-port, after-answers}
-use Rattle.demands.proofs.ReadLaws.{readL, read-memory, read-plain, read-closes}
+use Rattle.demands.proofs.ReadLaws.{readL, readAnswers, read-answers, read-memory, offers-plain, offers-close}
 use Rattle.demands.proofs.SettingsLaws.{Plain, plain-settings, due-settings}
 use Rattle.demands.proofs.StreamLevels.{write-levels, read-levels, command-levels, write-sixteen, read-sixteen, command-sixteen}
 use Rattle.demands.proofs.TraceLaws.{bitAnswers, nibbleAnswers, write-answers}
-use Rattle.demands.proofs.WriteLaws.{writeL}
 
 -- ---- what is read off a list of answers
 
@@ -74,6 +73,13 @@ commands-close (code ∷ codes) before = commands-close codes _
 
 -- ---- a write
 
+pub write-answered : (c : Chip) (first : ℕ) (ns : List ℕ) (es : List Event) → Fit first ns → samples es ≡ writeStream first ns
+    → answers c es ≡ moved (c .port) high .answer ∷ Opened ∷ bitAnswers 9 ++ nibbleAnswers first ns
+write-answered c first ns es fit e =
+    after-answers c es (subst Sixteen (sym e) (write-sixteen first ns))
+    ∙ ap (trace (c .port)) (ap (map levels) e ∙ write-levels first ns)
+    ∙ write-answers (c .port) first ns (fit .inside) (fit .some) (fit .nibbles)
+
 writes : (c : Chip) (first : ℕ) (ns : List ℕ) (es : List Event) → Valid c → Fit first ns → samples es ≡ writeStream first ns
     → Writes c first ns es
 writes c first ns es valid fit e =
@@ -84,17 +90,11 @@ writes c first ns es valid fit e =
           ∙ stores-first (act (moved (c .port) high .answer)) 1 (stores 21 (nibbleAnswers first ns)) (high-keeps (c .port))
           ∙ nibbles-stores ns 21 first;
       closed = ap (lastAnswer Nothing) answered ∙ nibbles-close ns first Taken;
-      settings = plain-settings c es small (subst Plain (sym traced) (write-plain (c .port) first ns fit));
+      settings = plain-settings c es (subst Sixteen (sym e) (write-sixteen first ns)) (subst Plain (sym answered) (opened-plain (c .port) 9 (nibbleAnswers first ns) (nibbles-plain first ns)));
     }
   where
-    small : Sixteen (samples es)
-    small = subst Sixteen (sym e) (write-sixteen first ns)
-
-    traced : answers c es ≡ trace (c .port) (writeL first ns)
-    traced = after-answers c es small ∙ ap (trace (c .port)) (ap (map levels) e ∙ write-levels first ns)
-
     answered : answers c es ≡ moved (c .port) high .answer ∷ Opened ∷ bitAnswers 9 ++ nibbleAnswers first ns
-    answered = traced ∙ write-answers (c .port) first ns (fit .inside) (fit .some) (fit .nibbles)
+    answered = write-answered c first ns es fit e
 
 -- ---- a read
 
@@ -113,66 +113,79 @@ take-nibbles zero m v = tt
 take-nibbles (suc k) [] v = tt
 take-nibbles (suc k) (x ∷ m) v = (v .0, take-nibbles k m (v .1))
 
-reads : (c : Chip) (first count : ℕ) (es : List Event) → Valid c → (0 < count) × (first + count ≤ 32)
-    → samples es ≡ readStream first count → Reads c first count es
-reads c first count es valid ok e =
-    record {
-      memory = ap (λ (p : Port). p .memory) (after-port c es small) ∙ ap (λ (ls : List Levels). runP (c .port) ls .memory) as-levels
-          ∙ read-memory (c .port) first count;
-      settings = plain-settings c es small (subst Plain (sym traced) (read-plain (c .port) first count));
-      noted =
-          read-done c first part (drop count (drop first m)) es fit (e ∙ ap (readStream first) (sym size))
-          (sym (take-append-drop count (drop first m)));
-      closed = ap (lastAnswer Nothing) traced ∙ read-closes (c .port) first count;
-    }
-  where
-    m : List ℕ
-    m = c .port .memory
+module _ (c : Chip) (first count : ℕ) (es : List Event) (valid : Valid c) (ok : (0 < count) × (first + count ≤ 32))
+    (e : samples es ≡ readStream first count) where
+  abbrev part : List ℕ
+  part = take count (drop first (c .port .memory))
 
-    part : List ℕ
-    part = take count (drop first m)
+  abbrev rest : List ℕ
+  rest = drop count (drop first (c .port .memory))
 
-    size : length part ≡ count
-    size = simp (length-take, length-drop) (omega (arith, valid .port .size, ok .1))
+  parts : drop first (c .port .memory) ≡ part ++ rest
+  parts = sym (take-append-drop count (drop first (c .port .memory)))
 
-    fit : Fit first part
-    fit = record { some = omega (arith, size, ok .0); inside = omega (arith, size, ok .1); nibbles = take-nibbles count (drop first m) (drop-nibbles first m (valid .port .nibbles)) }
+  size : length part ≡ count
+  size = simp (length-take, length-drop) (omega (arith, valid .port .size, ok .1))
 
-    small : Sixteen (samples es)
-    small = subst Sixteen (sym e) (read-sixteen first count)
+  fit : Fit first part
+  fit =
+      record {
+        some = omega (arith, size, ok .0);
+        inside = omega (arith, size, ok .1);
+        nibbles = take-nibbles count (drop first (c .port .memory)) (drop-nibbles first (c .port .memory) (valid .port .nibbles));
+      }
 
-    as-levels : map levels (samples es) ≡ readL first count
-    as-levels = ap (map levels) e ∙ read-levels first count
+  small : Sixteen (samples es)
+  small = subst Sixteen (sym e) (read-sixteen first count)
 
-    traced : answers c es ≡ trace (c .port) (readL first count)
-    traced = after-answers c es small ∙ ap (trace (c .port)) as-levels
+  as-levels : map levels (samples es) ≡ readL first count
+  as-levels = ap (map levels) e ∙ read-levels first count
+
+  pub read-answered : answers c es
+      ≡ moved (c .port) high .answer ∷ Opened ∷ bitAnswers 9 ++ readAnswers first (take count (drop first (c .port .memory)))
+  read-answered =
+      after-answers c es small ∙ ap (trace (c .port)) (as-levels ∙ ap (readL first) (sym size))
+      ∙ read-answers (c .port) first part rest (fit .some) (fit .inside) parts
+
+  reads : Reads c first count es
+  reads =
+      record {
+        memory = ap (λ (p : Port). p .memory) (after-port c es small) ∙ ap (λ (ls : List Levels). runP (c .port) ls .memory) as-levels
+            ∙ read-memory (c .port) first count;
+        settings =
+            plain-settings c es small
+            (subst Plain (sym read-answered) (opened-plain (c .port) 9 (readAnswers first part) (offers-plain first part)));
+        noted = read-done c first part rest es fit (e ∙ ap (readStream first) (sym size)) parts;
+        closed = ap (lastAnswer Nothing) read-answered ∙ offers-close first part Taken;
+      }
 
 -- ---- commands
 
-commands : (c : Chip) (codes : List ℕ) (es : List Event) → Defined codes → samples es ≡ commandStream codes → Commands c codes es
-commands c codes es v e =
-    record {
-      memory = ap (λ (p : Port). p .memory) (after-port c es small) ∙ ap (λ (ls : List Levels). runP (c .port) ls .memory) as-levels
-          ∙ command-memory (c .port) codes v;
-      obeyed = due;
-      settings = due-settings c es small ∙ ap (λ (d : List ObeyedAt). between d 0 es (c .settings)) due;
-      closed = ap (lastAnswer Nothing) answered ∙ commands-close codes Taken;
-    }
-  where
-    small : Sixteen (samples es)
-    small = subst Sixteen (sym e) (command-sixteen codes)
+module _ (c : Chip) (codes : List ℕ) (es : List Event) (v : Defined codes) (e : samples es ≡ commandStream codes) where
+  few : Sixteen (samples es)
+  few = subst Sixteen (sym e) (command-sixteen codes)
 
-    as-levels : map levels (samples es) ≡ commandL codes
-    as-levels = ap (map levels) e ∙ command-levels codes
+  sent : map levels (samples es) ≡ commandL codes
+  sent = ap (map levels) e ∙ command-levels codes
 
-    answered : answers c es ≡ moved (c .port) high .answer ∷ Opened ∷ bitAnswers 3 ++ commandsAnswers codes
-    answered = after-answers c es small ∙ ap (trace (c .port)) as-levels ∙ stream-answers (c .port) codes v
+  pub command-answered : answers c es ≡ moved (c .port) high .answer ∷ Opened ∷ bitAnswers 3 ++ commandsAnswers codes
+  command-answered = after-answers c es few ∙ ap (trace (c .port)) sent ∙ stream-answers (c .port) codes v
 
-    due : obeys 1 (answers c es) ≡ dueCommands 26 codes
-    due =
-        ap (obeys 1) answered
-        ∙ obeys-first (act (moved (c .port) high .answer)) 1 (obeys 9 (commandsAnswers codes)) (high-keeps (c .port))
-        ∙ commands-obeys codes 9
+  due : obeys 1 (answers c es) ≡ dueCommands 26 codes
+  due =
+      ap (obeys 1) command-answered
+      ∙ obeys-first (act (moved (c .port) high .answer)) 1 (obeys 9 (commandsAnswers codes)) (high-keeps (c .port))
+      ∙ commands-obeys codes 9
+
+  commands : Commands c codes es
+  commands =
+      record {
+        memory = ap (λ (p : Port). p .memory) (after-port c es few) ∙ ap (λ (ls : List Levels). runP (c .port) ls .memory) sent
+            ∙ command-memory (c .port) codes v;
+        obeyed = due;
+        settings = due-settings c es few ∙ ap (λ (d : List ObeyedAt). between d 0 es (c .settings)) due;
+        closed = ap (lastAnswer Nothing) command-answered ∙ commands-close codes Taken;
+      }
 
 -- ---- the demand
 

@@ -3,30 +3,26 @@
 use mathlib.Core.Path.{_≡_, _∙_, refl, sym, ap, subst}
 use mathlib.Core.Bool.{Bool, true, false, cond}
 use mathlib.Core.List.{List, [], _∷_, _++_, append-assoc, map}
-use Prim.Native.Nat.{ℕ, zero, suc, _+_, _-_, _*_, _/_, _≤_, _<_, min}
+use Prim.Native.Nat.{ℕ, zero, suc, _+_, _-_, _/_, _≤_, min}
 use native.Mathlib.Omega.{arith}
 use lib.Dec.{leb}
 use lib.ListN.{length, take, drop, length-take}
 use lib.Seq.{sets, sets-eq, paste, drop-at, length-take-le, take-all}
 use borrow.Author.Tests.{leb-true, leb-false}
 use Rattle.frames.specs.declared.Levels.{Levels}
-use Rattle.frames.specs.declared.Act.{Act}
-use Rattle.frames.specs.declared.Act.the-variants.{Keep}
 use Rattle.frames.specs.declared.Answer.{Answer}
+use Rattle.frames.specs.declared.Answer.the-variants.{Opened}
 use Rattle.frames.specs.Samples.{levels}
-use Rattle.frames.specs.Answers.{act}
 use Rattle.chip.specs.declared.Port.{Port}
 use Rattle.chip.specs.declared.Chip.{Chip}
 use Rattle.chip.specs.Chip.{moved}
-use Rattle.chip.specs.Valid.{Valid}
-use Rattle.state.specs.Record.{chipOf}
-use Rattle.state.proofs.ChipLaws.{valid-chip}
-use Rattle.driver.specs.Streams.{writeStream, readStream, decoded}
-use Rattle.demands.specs.Events.{Event, after, samples, answers, notes}
-use Rattle.demands.specs.Demand3.{Accepts, completed, Survives, Demand3, Demand3OfRecords}
+use Rattle.driver.specs.Streams.{writeStream, readStream}
+use Rattle.demands.specs.Events.{Event, after, samples, answers, notes, ReadsAs}
+use Rattle.demands.specs.Demand3.{completing, completed, Demand3}
 use Rattle.demands.proofs.AcceptedLaws.{Fit, accepted-write}
+use Rattle.demands.proofs.NotesLaws.{bits-read}
 use Rattle.demands.proofs.Ports.{Sixteen, runP, trace, high, high-keeps, trace-take, after-port, after-answers}
-use Rattle.demands.proofs.ReadLaws.{notesL, readL, after-notes, read-decodes}
+use Rattle.demands.proofs.ReadLaws.{notesL, after-notes, read-noted}
 use Rattle.demands.proofs.SettingsLaws.{Plain, Unobeyed, take-plain, plain-settings}
 use Rattle.demands.proofs.StreamLevels.{write-levels, read-levels, write-sixteen, read-sixteen, take-sixteen, map-take}
 use Rattle.demands.proofs.TraceLaws.{bitAnswers, bits-plain, nibbleAnswers, write-answers}
@@ -37,12 +33,12 @@ use Rattle.demands.proofs.WriteLaws.{writeL, write-memory, whole-memory
 completed-is : (n k : ℕ) → completed n k ≡ min ((k - 20) / 8) n
 unfolding completed
 completed-is zero k = omega arith
-completed-is (suc n) k = count (leb (20 + 8 * suc n) k) (completed n k) refl (completed-is n k)
+completed-is (suc n) k = count (leb (completing (suc n)) k) (completed n k) refl (completed-is n k)
   where
-    count : (b : Bool) (done : ℕ) → leb (20 + 8 * suc n) k ≡ b → done ≡ min ((k - 20) / 8) n
+    count : (b : Bool) (done : ℕ) → leb (completing (suc n)) k ≡ b → done ≡ min ((k - 20) / 8) n
         → cond b 1 0 + done ≡ min ((k - 20) / 8) (suc n)
-    count true done e ih = omega (arith, leb-true (20 + 8 * suc n) k e)
-    count false done e ih = omega (arith, leb-false (20 + 8 * suc n) k e)
+    count true done e ih = omega (arith, leb-true (completing (suc n)) k e)
+    count false done e ih = omega (arith, leb-false (completing (suc n)) k e)
 
 -- ---- one store after another, as one paste
 
@@ -67,19 +63,19 @@ sets-whole m first ns h =
     ∙ sets-paste m first (length ns) ns h
     ∙ ap (paste m first ns) all
 
--- ---- a write's answers obey nothing
+-- ---- a stream that opens, and a write, obey nothing
 
-pub keep-plain : (a : Act) → a ≡ Keep → Unobeyed a
-keep-plain a e = subst Unobeyed (sym e) tt
+pub opened-plain : (p : Port) (bits : ℕ) (rest : List Answer) → Plain rest → Plain (moved p high .answer ∷ Opened ∷ bitAnswers bits ++ rest)
+opened-plain p bits rest v = (subst Unobeyed (sym (high-keeps p)) tt, (tt, bits-plain bits rest v))
 
-nibbles-plain : (at : ℕ) (ns : List ℕ) → Plain (nibbleAnswers at ns)
+pub nibbles-plain : (at : ℕ) (ns : List ℕ) → Plain (nibbleAnswers at ns)
 nibbles-plain at [] = (tt, tt)
 nibbles-plain at (n ∷ ns) = (tt, (tt, (tt, (tt, (tt, (tt, (tt, (tt, nibbles-plain (at + 1) ns))))))))
 
-pub write-plain : (p : Port) (first : ℕ) (ns : List ℕ) → Fit first ns → Plain (trace p (writeL first ns))
+write-plain : (p : Port) (first : ℕ) (ns : List ℕ) → Fit first ns → Plain (trace p (writeL first ns))
 write-plain p first ns fit =
     subst Plain (sym (write-answers p first ns (fit .inside) (fit .some) (fit .nibbles)))
-    (keep-plain (act (moved p high .answer)) (high-keeps p), (tt, bits-plain 9 (nibbleAnswers first ns) (nibbles-plain first ns)))
+    (opened-plain p 9 (nibbleAnswers first ns) (nibbles-plain first ns))
 
 -- ---- whole streams, with ticks anywhere
 
@@ -91,12 +87,13 @@ write-done c first ns es fit e =
     ∙ whole-memory (c .port) first ns (fit .inside) (fit .some) (fit .nibbles)
 
 pub read-done : (c : Chip) (first : ℕ) (vs rest : List ℕ) (es : List Event) → Fit first vs → samples es ≡ readStream first (length vs)
-    → drop first (c .port .memory) ≡ vs ++ rest → decoded (notes c es) ≡ vs
+    → drop first (c .port .memory) ≡ vs ++ rest → ReadsAs (notes c es) vs
 read-done c first vs rest es fit e m =
-    ap decoded
-    (after-notes c es (subst Sixteen (sym e) (read-sixteen first (length vs)))
-    ∙ ap (notesL (c .port)) (ap (map levels) e ∙ read-levels first (length vs)))
-    ∙ read-decodes (c .port) first vs rest (fit .some) (fit .inside) (fit .nibbles) m
+    subst (λ noted. ReadsAs noted vs)
+    (sym (after-notes c es (subst Sixteen (sym e) (read-sixteen first (length vs)))
+    ∙ ap (notesL (c .port)) (ap (map levels) e ∙ read-levels first (length vs))
+    ∙ read-noted (c .port) first vs rest (fit .some) (fit .inside) m))
+    (bits-read vs (fit .some) (omega (arith, fit .inside)) (fit .nibbles))
 
 -- ---- the demand
 
@@ -144,7 +141,3 @@ demand3 c first ns k es valid accepts e =
     mended : (again : List Event) → samples again ≡ writeStream first ns → after (after c es) again .port .memory ≡ sets m first ns
     mended again e₁ =
         write-done (after c es) first ns again fit e₁ ∙ ap (λ (l : List ℕ). sets l first ns) stopped ∙ sets-again x ns m first
-
--- a valid record says a valid chip
-pub demand3-of-records : Demand3OfRecords
-demand3-of-records bytes first ns k es valid accepts e = demand3 (chipOf bytes) first ns k es (valid-chip bytes valid) accepts e

@@ -1,11 +1,10 @@
 -- A port runs by itself: ticks and settings do not reach it. So events over samples below 16 come to a run of the port
 -- over levels. Assumes nothing.
-use mathlib.Core.Path.{_≡_, _∙_, refl, sym, ap}
-use mathlib.Core.Bool.{Bool, true, false, cond, not, _&&_}
+use mathlib.Core.Path.{_≡_, _∙_, refl, ap}
+use mathlib.Core.Bool.{Bool, true, false, cond}
 use mathlib.Core.List.{List, [], _∷_, _++_, map}
-use Prim.Native.Nat.{ℕ, zero, suc, _≤_, _<_}
-use native.Mathlib.Omega.{arith}
-use lib.Dec.{eqb, ltb}
+use Prim.Native.Nat.{ℕ, zero, suc, _≤_}
+use lib.Dec.{eqb}
 use lib.ListN.{take}
 use borrow.Author.Tests.{le-ltb}
 use Rattle.frames.specs.declared.Levels.{Levels}
@@ -14,17 +13,14 @@ use Rattle.frames.specs.declared.Line.the-variants.{Released}
 use Rattle.frames.specs.declared.Edge.the-variants.{Rests, Closes}
 use Rattle.frames.specs.declared.Answer.{Answer}
 use Rattle.frames.specs.declared.Answer.the-variants.{Nothing, Closed, Dropped}
-use Rattle.frames.specs.declared.Act.{Act}
-use Rattle.frames.specs.declared.Act.the-variants.{Keep, Store, Obey}
+use Rattle.frames.specs.declared.Act.the-variants.{Keep}
 use Rattle.frames.specs.Samples.{levels}
 use Rattle.frames.specs.Frames.{frame, closed}
 use Rattle.frames.specs.Answers.{act, unfinished}
-use Rattle.rules.specs.declared.Settings.{Settings}
-use Rattle.rules.specs.Ticks.{advanced}
 use Rattle.chip.specs.declared.Port.{Port}
 use Rattle.chip.specs.declared.Chip.{Chip}
-use Rattle.chip.specs.Chip.{memoryAfter, settingsAfter, framedBy, moved, stepped}
-use Rattle.demands.specs.Events.{Event, sample, tick, happened, after, samples, ticks, answers, dataNumber, notes}
+use Rattle.chip.specs.Chip.{memoryAfter, framedBy, moved, stepped}
+use Rattle.demands.specs.Events.{Event, sample, tick, happened, after, samples, answers}
 
 -- every sample is one of the sixteen
 abbrev pub Sixteen : List ℕ → Type 0
@@ -95,6 +91,10 @@ module _ (p : Port) where
   pub high-idles : moved p high .port ≡ idle (p .memory) high
   unfolding moved framedBy memoryAfter
   high-idles = simp (by-before (p .levels .cs), closing-act)
+
+  pub high-answer : moved p high .answer ≡ cond (p .levels .cs) Nothing (cond (eqb (unfinished (p .phase)) 0) Closed Dropped)
+  unfolding moved framedBy
+  high-answer = simp (by-before (p .levels .cs))
 
   -- and what it is answered changes neither memory nor settings
   pub high-keeps : act (moved p high .answer) ≡ Keep

@@ -1,34 +1,34 @@
 -- A read's stream, fed to a port: the head leads to the address, each nibble read is one computation, and what the host notes
--- decodes to the memory. Assumes nothing.
-use mathlib.Core.Path.{_≡_, _∙_, refl, sym, ap, ap₂, subst}
+-- are the bits of the memory. Assumes nothing.
+use mathlib.Core.Path.{_≡_, _∙_, refl, sym, ap, ap₂}
 use mathlib.Core.Bool.{Bool, true, false, cond, not, _&&_}
 use mathlib.Core.List.{List, [], _∷_, _++_, map}
-use Prim.Native.Nat.{ℕ, zero, suc, _+_, _*_, _%_, _≤_, _<_}
+use Prim.Native.Nat.{ℕ, zero, suc, _+_, _%_, _≤_, _<_}
 use native.Mathlib.Omega.{arith}
 use lib.Dec.{eqb}
 use lib.ListN.{length, getD, drop}
 use lib.Seq.{getD-drop, drop-drop}
-use Rattle.ground.specs.Bits.{bitAt, bitNumber}
+use Rattle.ground.specs.Bits.{bitAt}
 use Rattle.ground.specs.Values.{values, agree}
 use Rattle.frames.specs.declared.Levels.{Levels}
 use Rattle.frames.specs.declared.Phase.the-variants.{Reading}
 use Rattle.frames.specs.declared.Line.{Line}
 use Rattle.frames.specs.declared.Line.the-variants.{Released, Driven}
 use Rattle.frames.specs.declared.Answer.{Answer}
-use Rattle.frames.specs.declared.Answer.the-variants.{Nothing, Opened, Closed, Taken}
+use Rattle.frames.specs.declared.Answer.the-variants.{Nothing, Opened, Closed, Offered}
 use Rattle.frames.specs.Samples.{levels}
 use Rattle.frames.specs.Frames.{next, frame, closed, taken, identTaken, identified, readToTaken, offered, readOffered}
 use Rattle.chip.specs.declared.Port.{Port}
 use Rattle.chip.specs.declared.Chip.{Chip}
-use Rattle.chip.specs.Chip.{memoryAfter, framedBy, moved, stepped}
-use Rattle.chip.specs.Valid.{Nibbles}
-use Rattle.driver.specs.Streams.{readId, addressBits, decoded}
+use Rattle.chip.specs.Chip.{memoryAfter, framedBy, moved}
+use Rattle.driver.specs.Streams.{readId, addressBits}
 use Rattle.demands.specs.Events.{Event, sample, tick, happened, samples, dataNumber, notes}
 use Rattle.demands.specs.Demand2.{lastAnswer}
-use Rattle.demands.proofs.Ports.{Sixteen, runP, trace, trace-append, run-append, idle, high, high-idles, high-keeps, stepped-moved}
+use Rattle.demands.proofs.Ports.{Sixteen, runP, trace, trace-append, run-append, idle, high, high-idles, stepped-moved}
+use Rattle.demands.proofs.NotesLaws.{bitsOf}
 use Rattle.demands.proofs.StreamLevels.{up, bitsL, headL, readsL}
-use Rattle.demands.proofs.SettingsLaws.{Plain, Unobeyed}
-use Rattle.demands.proofs.TraceLaws.{bitAnswers, bits-plain}
+use Rattle.demands.proofs.SettingsLaws.{Plain}
+use Rattle.demands.proofs.TraceLaws.{bitAnswers}
 use Rattle.demands.proofs.WriteLaws.{sixBits, address-bits, next-mod}
 
 -- ---- what the host notes, by levels
@@ -77,6 +77,10 @@ reached-by : (m : List ℕ) (first : ℕ)
 unfolding moved framedBy frame taken identTaken identified readToTaken memoryAfter
 reached-by m first = refl
 
+head-trace : (m : List ℕ) (first : ℕ) → trace (idle m high) (restL first) ≡ Opened ∷ bitAnswers 9
+unfolding moved framedBy frame taken identTaken identified readToTaken memoryAfter
+head-trace m first = refl
+
 -- a sample with CS high is none that the host notes
 not-noted : (before : Bool) (x y : List ℕ) → cond (not before && false) x y ≡ y
 not-noted true x y = refl
@@ -93,117 +97,109 @@ same-address first h = address-bits first h ∙ omega arith
 
 -- ---- the nibbles
 
-abbrev fromBits : ℕ → ℕ
-fromBits n = bitNumber (bitAt 0 n) + 2 * bitNumber (bitAt 1 n) + 4 * bitNumber (bitAt 2 n) + 8 * bitNumber (bitAt 3 n)
+-- what its eight samples are answered
+abbrev nibbleOffers : ℕ → ℕ → List Answer
+nibbleOffers at v =
+    Offered at (bitAt 0 v) ∷ Nothing ∷ Offered at (bitAt 1 v) ∷ Nothing ∷ Offered at (bitAt 2 v) ∷ Nothing ∷ Offered at (bitAt 3 v) ∷ Nothing ∷ []
 
-nibbles : values fromBits 0 16 ≡ values (λ n. n) 0 16
-nibbles = refl
+abbrev pub readAnswers : ℕ → List ℕ → List Answer
+readAnswers at [] = Closed ∷ []
+readAnswers at (v ∷ vs) = nibbleOffers at v ++ readAnswers (at + 1) vs
 
-from-bits : (n : ℕ) → n < 16 → fromBits n ≡ n
-from-bits n h = agree fromBits (λ k. k) 16 nibbles n h
+-- D3 is what it leaves on DATA
+abbrev driven : List ℕ → ℕ → Line
+driven m a = Driven (bitAt 3 (getD m a 0))
 
-read-nibble : (b : Bool) (line : Line) (m : List ℕ) (a n : ℕ)
-    → decoded (notesL (offering b line m a) (readsL (suc n)))
-    ≡ fromBits (getD m a 0) ∷ decoded (notesL (offering true (Driven (bitAt 3 (getD m a 0))) m (next a)) (readsL n))
-unfolding moved framedBy frame offered readOffered memoryAfter
-read-nibble b line m a n = refl
+module _ (b : Bool) (line : Line) (m : List ℕ) (a n : ℕ) where
+  nibble-notes : notesL (offering b line m a) (readsL (suc n))
+      ≡ bitsOf (getD m a 0 ∷ []) ++ notesL (offering true (driven m a) m (next a)) (readsL n)
+  unfolding moved framedBy frame offered readOffered memoryAfter
+  nibble-notes = refl
+
+  nibble-offers : trace (offering b line m a) (readsL (suc n))
+      ≡ nibbleOffers a (getD m a 0) ++ trace (offering true (driven m a) m (next a)) (readsL n)
+  unfolding moved framedBy frame offered readOffered memoryAfter
+  nibble-offers = refl
 
 -- the memory from a on begins with vs
-reads-decode : (vs rest : List ℕ) (b : Bool) (line : Line) (m : List ℕ) (a : ℕ) → a + length vs ≤ 32 → Nibbles vs → drop a m ≡ vs ++ rest
-    → decoded (notesL (offering b line m (a % 32)) (readsL (length vs))) ≡ vs
+reads-body : (vs rest : List ℕ) (b : Bool) (line : Line) (m : List ℕ) (a : ℕ) → a + length vs ≤ 32 → drop a m ≡ vs ++ rest
+    → (notesL (offering b line m (a % 32)) (readsL (length vs)) ≡ bitsOf vs)
+    × (trace (offering b line m (a % 32)) (readsL (length vs)) ≡ readAnswers a vs)
 unfolding moved framedBy frame closed
-reads-decode [] rest b line m a h v e = refl
-reads-decode (n ∷ vs) rest b line m a h v e =
-    read-nibble b line m (a % 32) (length vs)
-    ∙ ap₂ _∷_ here
-    (ap (λ (x : ℕ). decoded (notesL (offering true (Driven (bitAt 3 (getD m (a % 32) 0))) m x) (readsL (length vs)))) (next-mod a)
-    ∙ reads-decode vs rest true (Driven (bitAt 3 (getD m (a % 32) 0))) m (suc a) (omega arith) (v .1) there)
+reads-body [] rest b line m a h e = (refl, refl)
+reads-body (n ∷ vs) rest b line m a h e =
+    let others = reads-body vs rest true (driven m (a % 32)) m (suc a) (omega arith) there in (
+      nibble-notes b line m (a % 32) (length vs)
+          ∙ ap₂ (λ (x : ℕ) (noted : List ℕ). bitsOf (x ∷ []) ++ noted) at
+          (ap (λ (x : ℕ). notesL (offering true (driven m (a % 32)) m x) (readsL (length vs))) (next-mod a) ∙ others .0),
+      nibble-offers b line m (a % 32) (length vs)
+          ∙ ap₂ (λ (x y : ℕ). nibbleOffers x y ++ trace (offering true (driven m (a % 32)) m (next (a % 32))) (readsL (length vs))) near at
+          ∙ ap (λ (answers : List Answer). nibbleOffers a n ++ answers)
+          (ap (λ (x : ℕ). trace (offering true (driven m (a % 32)) m x) (readsL (length vs))) (next-mod a)
+          ∙ others .1 ∙ ap (λ (x : ℕ). readAnswers x vs) one),
+    )
   where
+    near : a % 32 ≡ a
+    near = omega arith
+
     small : a % 32 ≡ a + 0
     small = omega arith
-
-    at : getD m (a % 32) 0 ≡ n
-    at = ap (λ (x : ℕ). getD m x 0) small ∙ sym (getD-drop a m 0 0) ∙ ap (λ (l : List ℕ). getD l 0 0) e
-
-    here : fromBits (getD m (a % 32) 0) ≡ n
-    here = ap fromBits at ∙ from-bits n (v .0)
 
     one : suc a ≡ a + 1
     one = omega arith
 
+    at : getD m (a % 32) 0 ≡ n
+    at = ap (λ (x : ℕ). getD m x 0) small ∙ sym (getD-drop a m 0 0) ∙ ap (λ (l : List ℕ). getD l 0 0) e
+
     there : drop (suc a) m ≡ vs ++ rest
     there = ap (λ (x : ℕ). drop x m) one ∙ sym (drop-drop 1 a m) ∙ ap (drop 1) e
 
-pub read-decodes : (p : Port) (first : ℕ) (vs rest : List ℕ) → 0 < length vs → first + length vs ≤ 32 → Nibbles vs
-    → drop first (p .memory) ≡ vs ++ rest → decoded (notesL p (readL first (length vs))) ≡ vs
-read-decodes p first vs rest some h v e =
-    ap decoded
-    (not-noted (p .levels .rd) _ _
-    ∙ ap (λ (q : Port). notesL q (restL first ++ readsL (length vs))) (high-idles p)
-    ∙ head-notes (p .memory) first (readsL (length vs))
-    ∙ ap (λ (q : Port). notesL q (readsL (length vs))) (reached-by (p .memory) first)
-    ∙ ap (λ (x : ℕ). notesL (offering (bitAt 0 first) Released (p .memory) x) (readsL (length vs))) (same-address first (omega arith)))
-    ∙ reads-decode vs rest (bitAt 0 first) Released (p .memory) first h v e
+-- the answers obey nothing, and the last closes
+pub offers-plain : (at : ℕ) (vs : List ℕ) → Plain (readAnswers at vs)
+offers-plain at [] = (tt, tt)
+offers-plain at (v ∷ vs) = (tt, (tt, (tt, (tt, (tt, (tt, (tt, (tt, offers-plain (at + 1) vs))))))))
 
--- ---- neither memory nor settings
+pub offers-close : (at : ℕ) (vs : List ℕ) (before : Answer) → lastAnswer before (readAnswers at vs) ≡ Closed
+offers-close at [] before = refl
+offers-close at (v ∷ vs) before = offers-close (at + 1) vs _
+
+-- ---- the whole stream, from any port
+
+module _ (p : Port) (first : ℕ) (vs rest : List ℕ) (some : 0 < length vs) (inside : first + length vs ≤ 32)
+    (e : drop first (p .memory) ≡ vs ++ rest) where
+  abbrev body : Port
+  body = offering (bitAt 0 first) Released (p .memory) (first % 32)
+
+  reached-body : runP (idle (p .memory) high) (restL first) ≡ body
+  reached-body = reached-by (p .memory) first ∙ ap (offering (bitAt 0 first) Released (p .memory)) (same-address first (omega arith))
+
+  pub read-noted : notesL p (readL first (length vs)) ≡ bitsOf vs
+  read-noted =
+      not-noted (p .levels .rd) _ _
+      ∙ ap (λ (q : Port). notesL q (restL first ++ readsL (length vs))) (high-idles p)
+      ∙ head-notes (p .memory) first (readsL (length vs))
+      ∙ ap (λ (q : Port). notesL q (readsL (length vs))) reached-body
+      ∙ reads-body vs rest (bitAt 0 first) Released (p .memory) first inside e .0
+
+  pub read-answers : trace p (readL first (length vs)) ≡ moved p high .answer ∷ Opened ∷ bitAnswers 9 ++ readAnswers first vs
+  read-answers =
+      ap (λ (answers : List Answer). moved p high .answer ∷ answers)
+      (ap (λ (q : Port). trace q (restL first ++ readsL (length vs))) (high-idles p)
+      ∙ trace-append (idle (p .memory) high) (restL first) (readsL (length vs))
+      ∙ ap (λ (done : List Answer). done ++ trace (runP (idle (p .memory) high) (restL first)) (readsL (length vs)))
+      (head-trace (p .memory) first)
+      ∙ ap (λ (answers : List Answer). Opened ∷ bitAnswers 9 ++ answers)
+      (ap (λ (q : Port). trace q (readsL (length vs))) reached-body
+      ∙ reads-body vs rest (bitAt 0 first) Released (p .memory) first inside e .1))
 
 body-memory : (n : ℕ) (b : Bool) (line : Line) (m : List ℕ) (a : ℕ) → runP (offering b line m a) (readsL n) .memory ≡ m
 unfolding moved framedBy frame closed offered readOffered memoryAfter
 body-memory zero b line m a = refl
-body-memory (suc n) b line m a = body-memory n true (Driven (bitAt 3 (getD m a 0))) m (next a)
-
-body-plain : (n : ℕ) (b : Bool) (line : Line) (m : List ℕ) (a : ℕ) → Plain (trace (offering b line m a) (readsL n))
-unfolding moved framedBy frame closed offered readOffered memoryAfter
-body-plain zero b line m a = (tt, tt)
-body-plain (suc n) b line m a =
-    (tt, (tt, (tt, (tt, (tt, (tt, (tt, (tt, body-plain n true (Driven (bitAt 3 (getD m a 0))) m (next a)))))))))
-
-body-closes : (n : ℕ) (b : Bool) (line : Line) (m : List ℕ) (a : ℕ) (before : Answer)
-    → lastAnswer before (trace (offering b line m a) (readsL n)) ≡ Closed
-unfolding moved framedBy frame closed offered readOffered memoryAfter
-body-closes zero b line m a before = refl
-body-closes (suc n) b line m a before = body-closes n true (Driven (bitAt 3 (getD m a 0))) m (next a) Nothing
-
--- ---- the whole stream
-
--- from any port, through the head
-to-body : (p : Port) (first n : ℕ)
-    → runP (moved p high .port) (restL first ++ readsL n)
-    ≡ runP (offering (bitAt 0 first) Released (p .memory) (addressed first)) (readsL n)
-to-body p first n =
-    ap (λ (q : Port). runP q (restL first ++ readsL n)) (high-idles p)
-    ∙ run-append (idle (p .memory) high) (restL first) (readsL n)
-    ∙ ap (λ (q : Port). runP q (readsL n)) (reached-by (p .memory) first)
+body-memory (suc n) b line m a = body-memory n true (driven m a) m (next a)
 
 pub read-memory : (p : Port) (first n : ℕ) → runP p (readL first n) .memory ≡ p .memory
 read-memory p first n =
-    ap (λ (q : Port). q .memory) (to-body p first n) ∙ body-memory n (bitAt 0 first) Released (p .memory) _
-
-head-trace : (m : List ℕ) (first : ℕ) → trace (idle m high) (restL first) ≡ Opened ∷ bitAnswers 9
-unfolding moved framedBy frame taken identTaken identified readToTaken memoryAfter
-head-trace m first = refl
-
-read-trace : (p : Port) (first n : ℕ)
-    → trace p (readL first n)
-    ≡ moved p high .answer ∷ Opened ∷ bitAnswers 9
-    ++ trace (offering (bitAt 0 first) Released (p .memory) (addressed first)) (readsL n)
-read-trace p first n =
-    ap (λ (rest : List Answer). moved p high .answer ∷ rest)
-    (ap (λ (q : Port). trace q (restL first ++ readsL n)) (high-idles p)
-    ∙ trace-append (idle (p .memory) high) (restL first) (readsL n)
-    ∙ ap (λ (done : List Answer). done ++ trace (runP (idle (p .memory) high) (restL first)) (readsL n)) (head-trace (p .memory) first)
-    ∙ ap (λ (q : Port). Opened ∷ bitAnswers 9 ++ trace q (readsL n)) (reached-by (p .memory) first))
-
-pub read-plain : (p : Port) (first n : ℕ) → Plain (trace p (readL first n))
-read-plain p first n =
-    subst Plain (sym (read-trace p first n)) (
-      subst Unobeyed (sym (high-keeps p)) tt,
-      (
-        tt,
-        bits-plain 9 (trace (offering (bitAt 0 first) Released (p .memory) (addressed first)) (readsL n))
-            (body-plain n (bitAt 0 first) Released (p .memory) (addressed first)),
-      ),
-    )
-
-pub read-closes : (p : Port) (first n : ℕ) → lastAnswer Nothing (trace p (readL first n)) ≡ Closed
-read-closes p first n = ap (lastAnswer Nothing) (read-trace p first n) ∙ body-closes n (bitAt 0 first) Released (p .memory) _ Taken
+    ap (λ (q : Port). runP q (restL first ++ readsL n) .memory) (high-idles p)
+    ∙ ap (λ (q : Port). q .memory) (run-append (idle (p .memory) high) (restL first) (readsL n))
+    ∙ ap (λ (q : Port). runP q (readsL n) .memory) (reached-by (p .memory) first)
+    ∙ body-memory n (bitAt 0 first) Released (p .memory) _

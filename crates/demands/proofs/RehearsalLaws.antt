@@ -1,34 +1,31 @@
 -- Laws of a rehearsal: one sample more with its pause, and the end; and a rehearsal is a write that stops, so demand 3 holds
--- of it. Assumes nothing.
-use mathlib.Core.Path.{_≡_, _∙_, refl, sym, ap}
-use mathlib.Core.List.{List, [], _∷_, _++_}
-use Prim.Native.Nat.{ℕ, zero, suc, _+_, _-_, _≤_, _<_}
+-- of the chip that it returns. Assumes nothing.
+use mathlib.Core.Path.{_≡_, _∙_, refl, sym, ap, subst}
+use mathlib.Core.Bool.{Bool, true, false}
+use mathlib.Core.List.{List, [], _∷_}
+use Prim.Native.Nat.{ℕ, suc, _+_, _-_, _*_, _≤_, _<_}
 use native.Mathlib.Omega.{arith}
+use native.Mathlib.Nat.{suc-mul}
 use native.Mathlib.Numerals.{add-one}
-use lib.ListN.{length, take, drop, getD, replicate, drop-of-length-le}
+use lib.ListN.{length, take, drop, getD, drop-of-length-le}
 use lib.Seq.{drop-cons, take-nil}
-use Rattle.rules.specs.Ticks as rules
+use borrow.Author.Tests.{le-ltb}
 use Rattle.chip.specs.declared.Chip.{Chip}
-use Rattle.chip.specs.Chip.{stepped, ticked, advanced}
-use Rattle.chip.specs.Valid.{Valid}
+use Rattle.chip.specs.Chip.{stepped, advanced}
 use Rattle.ground.specs.declared.Refusal.{Refusal}
+use Rattle.ground.specs.Places.{somewhere}
 use Rattle.ground.specs.Written.{over}
 use Rattle.ground.proofs.WrittenLaws.{length-over}
-use Rattle.driver.specs.declared.Answer.{Answer}
-use Rattle.driver.specs.declared.Answer.the-variants.{Written, Refused}
-use Rattle.driver.specs.Refusals.{writeAnswer, left, Does}
+use Rattle.ground.specs.declared.Outcome.{Outcome}
+use Rattle.ground.specs.declared.Outcome.the-variants.{Written, Refused}
+use Rattle.driver.specs.Refusals.{nothing, outsideMemory, nibbleFault, refusedIf, fitted, writeAnswer, left, Does}
 use Rattle.driver.specs.Streams.{writeStream}
-use Rattle.demands.specs.Events.{Event, sample, tick, happened, after, samples}
+use Rattle.demands.specs.Events.{after, samples, ticks}
 use Rattle.demands.specs.Demand3.{Accepts, Survives}
-use Rattle.demands.specs.Rehearsal.{paced, stopped, Rehearses}
+use Rattle.demands.specs.Rehearsal.{paced, stopped, Rehearses, Demand3OfRehearsals}
 use Rattle.demands.proofs.AcceptedLaws.{written-fits, buffer-holds}
 use Rattle.demands.proofs.Demand3.{demand3}
-
--- some ticks in a row
-after-pause : (n : ℕ) (c : Chip) (es : List Event) → after c (replicate n tick ++ es) ≡ after (advanced n c) es
-unfolding rules.advanced
-after-pause zero c es = refl
-after-pause (suc n) c es = after-pause n (ticked c) es
+use Rattle.demands.proofs.EventsLaws.{after-pause, samples-pause, ticks-pause}
 
 module _ (c : Chip) (ss : List ℕ) (stop pause i : ℕ) where
   -- one sample more, and its pause
@@ -52,20 +49,40 @@ module _ (c : Chip) (ss : List ℕ) (stop pause i : ℕ) where
 
 -- ---- demand 3 of a rehearsal
 
-ticks-samples : (n : ℕ) (es : List Event) → samples (replicate n tick ++ es) ≡ samples es
-ticks-samples zero es = refl
-ticks-samples (suc n) es = ticks-samples n es
-
 paced-samples : (pause : ℕ) (ss : List ℕ) → samples (paced pause ss) ≡ ss
 paced-samples pause [] = refl
-paced-samples pause (s ∷ ss) = ap (λ (l : List ℕ). s ∷ l) (ticks-samples pause (paced pause ss) ∙ paced-samples pause ss)
+paced-samples pause (s ∷ ss) = ap (λ (l : List ℕ). s ∷ l) (samples-pause pause (paced pause ss) ∙ paced-samples pause ss)
 
--- what `rehearse` leaves of a valid chip, after an accepted write stopped after `stop` samples, survives
-pub rehearsed-survives : (c : Chip) (first : ℕ) (nibbles : List ℕ) (stop pause : ℕ) → Valid c → Accepts first nibbles
-    → Survives c first nibbles stop (paced pause (take stop (writeStream first nibbles)))
-rehearsed-survives c first nibbles stop pause valid accepts =
-    demand3 c first nibbles stop (paced pause (take stop (writeStream first nibbles))) valid accepts
-    (paced-samples pause (take stop (writeStream first nibbles)))
+paced-ticks : (pause : ℕ) (ss : List ℕ) → ticks (paced pause ss) ≡ length ss * pause
+paced-ticks pause [] = omega arith
+paced-ticks pause (s ∷ ss) =
+    let h = paced-ticks pause ss in
+    let more = suc-mul (length ss) pause in
+    ticks-pause pause (paced pause ss) ∙ omega arith
+
+-- a success stays one where only what comes after a test is another
+still : (test : Bool) (why : Refusal) {rest rest' : Answer} {n m : ℕ} → refusedIf test why rest ≡ Written n
+    → (rest ≡ Written n → rest' ≡ Written m) → refusedIf test why rest' ≡ Written m
+still true why e f = let z : _≡_ {A = ℕ} 0 1 = cc in let no : ⊥ = omega arith in absurd no
+still false why e f = f e
+
+-- what is accepted in some room is accepted in just enough
+accepted : (first : ℕ) (ns : List ℕ) (room count : ℕ) → writeAnswer first ns room ≡ Written count → Accepts first ns
+unfolding writeAnswer
+accepted first ns room count e =
+    let long = length (writeStream first ns) in
+    let fits : fitted (writeStream first ns) long ≡ Written long = rw (le-ltb long long (omega arith)) in
+    still (nothing (length ns)) _ e (λ e₁. still (outsideMemory first (length ns)) _ e₁ (λ e₂. still (somewhere nibbleFault ns) _ e₂ (λ e₃. fits)))
+
+pub rehearsed-survives : Demand3OfRehearsals
+rehearsed-survives c first ns stop pause before r after' count valid did e =
+    let fed = take stop (writeStream first ns) in
+    let due : writeAnswer first ns (length before) ≡ Written count = sym (did .answer) ∙ e in
+    let end : after c (paced pause fed) ≡ r .chip =
+    sym (did .end ∙ ap (λ (a : Answer). stopped a c stop pause (writeStream first ns)) due) in
+    subst (λ n. Survives c first ns stop n (r .chip)) (paced-ticks pause fed)
+    (subst (Survives c first ns stop (ticks (paced pause fed))) end
+    (demand3 c first ns stop (paced pause fed) valid (accepted first ns (length before) count due) (paced-samples pause fed)))
 
 -- ---- what the driver's call leaves, and what is fed
 

@@ -21,7 +21,7 @@ use Rattle.frames.specs.declared.Answer.the-variants.{Nothing, Opened, Refused}
 use Rattle.chip.specs.declared.Chip.{Chip}
 use Rattle.chip.specs.Chip.{stepped, obeyedAs}
 use Rattle.chip.specs.PowerOn.{freshChip}
-use Rattle.driver.specs.declared.Answer.the-variants.{Written, Refused as Rejected}
+use Rattle.ground.specs.declared.Outcome.the-variants.{Written, Refused as Rejected}
 use Rattle.driver.specs.Refusals.{writeAnswer}
 use Rattle.driver.specs.Streams.{writeStream, commandStream, decoded}
 

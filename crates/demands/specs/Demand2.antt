@@ -18,10 +18,10 @@ use Rattle.frames.specs.Answers.{act}
 use Rattle.chip.specs.declared.Chip.{Chip}
 use Rattle.chip.specs.Chip.{obeyedAs}
 use Rattle.chip.specs.Valid.{Valid}
-use Rattle.driver.specs.declared.Answer.the-variants.{Written}
+use Rattle.ground.specs.declared.Outcome.the-variants.{Written}
 use Rattle.driver.specs.Refusals.{writeAnswer, readAnswer, commandAnswer}
-use Rattle.driver.specs.Streams.{writeStream, readStream, commandStream, decoded}
-use Rattle.demands.specs.Events.{Event, sample, tick, after, samples, ticks, answers, notes}
+use Rattle.driver.specs.Streams.{writeStream, readStream, commandStream}
+use Rattle.demands.specs.Events.{Event, sample, tick, after, samples, ticks, answers, notes, ReadsAs}
 use Rattle.demands.specs.Demand3.{Accepts}
 
 -- The last answer of some, the first where there are none.
@@ -61,11 +61,11 @@ pub record Writes (chip : Chip) (first : ℕ) (nibbles : List ℕ) (events : Lis
 
 -- ---- a read
 
--- A read changes neither memory nor settings, and what the host notes decodes to the memory read.
+-- A read changes neither memory nor settings, and what the host notes reads back as the memory asked for.
 pub record Reads (chip : Chip) (first count : ℕ) (events : List Event) : Type 0 where
   pub memory : after chip events .port .memory ≡ chip .port .memory
   pub settings : after chip events .settings ≡ advanced (ticks events) (chip .settings)
-  pub noted : decoded (notes chip events) ≡ take count (drop first (chip .port .memory))
+  pub noted : ReadsAs (notes chip events) (take count (drop first (chip .port .memory)))
   pub closed : lastAnswer Nothing (answers chip events) ≡ Closed
 
 -- ---- commands

@@ -3,7 +3,7 @@
 -- completed by then, and the old ones elsewhere; the settings and counters are what the ticks alone make of them; resending
 -- mends it, and reading back returns the new values. Assumes nothing.
 use mathlib.Core.Path.{_≡_}
-use mathlib.Core.Bool.{true, cond}
+use mathlib.Core.Bool.{cond}
 use mathlib.Core.List.{List}
 use Prim.Native.Nat.{ℕ, zero, suc, _+_, _*_}
 use lib.Dec.{leb}
@@ -12,40 +12,36 @@ use lib.Seq.{paste}
 use Rattle.rules.specs.Ticks.{advanced}
 use Rattle.chip.specs.declared.Chip.{Chip}
 use Rattle.chip.specs.Valid.{Valid}
-use Rattle.state.specs.Record.{recordValid, chipOf}
-use Rattle.driver.specs.declared.Answer.the-variants.{Written}
+use Rattle.ground.specs.declared.Outcome.the-variants.{Written}
 use Rattle.driver.specs.Refusals.{writeAnswer}
-use Rattle.driver.specs.Streams.{writeStream, readStream, decoded}
-use Rattle.demands.specs.Events.{Event, after, samples, ticks, notes}
+use Rattle.driver.specs.Streams.{writeStream, readStream}
+use Rattle.demands.specs.Events.{Event, after, samples, ticks, notes, ReadsAs}
 
 -- The driver accepts the write: given room for it, it writes the stream.
 abbrev pub Accepts : ℕ → List ℕ → Type 0
 Accepts first nibbles =
     writeAnswer first nibbles (length (writeStream first nibbles)) ≡ Written (length (writeStream first nibbles))
 
--- How many of n nibbles are complete after k samples: nibble i, from 1, at sample 20 + 8i and not before.
+-- The sample that completes nibble i, from 1; and how many of n nibbles are complete after k samples.
+abbrev pub completing : ℕ → ℕ
+completing i = 20 + 8 * i
+
 unfoldable pub completed : ℕ → ℕ → ℕ
 completed zero k = 0
-completed (suc n) k = cond (leb (20 + 8 * suc n) k) 1 0 + completed n k
+completed (suc n) k = cond (leb (completing (suc n)) k) 1 0 + completed n k
 
--- What stands after the stop. `paste m first nibbles n` is m with the first n of the nibbles over it from first on.
-pub record Survives (chip : Chip) (first : ℕ) (nibbles : List ℕ) (k : ℕ) (events : List Event) : Type 0 where
-  pub memory : after chip events .port .memory ≡ paste (chip .port .memory) first nibbles (completed (length nibbles) k)
-  pub settings : after chip events .settings ≡ advanced (ticks events) (chip .settings)
+-- What stands after k samples and some ticks, the chip having been left as `stopped`. `paste m first nibbles n` is m with the
+-- first n of the nibbles over it from first on.
+pub record Survives (chip : Chip) (first : ℕ) (nibbles : List ℕ) (k passed : ℕ) (stopped : Chip) : Type 0 where
+  pub memory : stopped .port .memory ≡ paste (chip .port .memory) first nibbles (completed (length nibbles) k)
+  pub settings : stopped .settings ≡ advanced passed (chip .settings)
   pub resent : (again : List Event) → samples again ≡ writeStream first nibbles
-      → after (after chip events) again .port .memory ≡ paste (chip .port .memory) first nibbles (length nibbles)
+      → after stopped again .port .memory ≡ paste (chip .port .memory) first nibbles (length nibbles)
   pub readBack : (again back : List Event) → samples again ≡ writeStream first nibbles
-      → samples back ≡ readStream first (length nibbles) → decoded (notes (after (after chip events) again) back) ≡ nibbles
+      → samples back ≡ readStream first (length nibbles) → ReadsAs (notes (after stopped again) back) nibbles
 
 abbrev pub Demand3 : Type 0
 Demand3 =
     (chip : Chip) (first : ℕ) (nibbles : List ℕ) (k : ℕ) (events : List Event)
     → Valid chip → Accepts first nibbles → samples events ≡ take k (writeStream first nibbles)
-    → Survives chip first nibbles k events
-
--- "Any valid state" means any valid record: the same of the chip that such bytes say.
-abbrev pub Demand3OfRecords : Type 0
-Demand3OfRecords =
-    (bytes : List ℕ) (first : ℕ) (nibbles : List ℕ) (k : ℕ) (events : List Event)
-    → recordValid bytes ≡ true → Accepts first nibbles → samples events ≡ take k (writeStream first nibbles)
-    → Survives (chipOf bytes) first nibbles k events
+    → Survives chip first nibbles k (ticks events) (after chip events)

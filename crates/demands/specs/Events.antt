@@ -1,14 +1,19 @@
 -- What happens to a chip: samples, with ticks of its clock between them. Assumes nothing.
-use Prim.Native.Nat.{ℕ, zero, suc, _+_}
-use mathlib.Core.Bool.{Bool, cond, not, _&&_}
+use mathlib.Core.Path.{_≡_}
+use Prim.Native.Nat.{ℕ, suc, _≤_}
+use mathlib.Core.Bool.{cond, not, _&&_}
 use mathlib.Core.List.{List, [], _∷_}
 use lib.Dec.{eqb}
+use lib.ListN.{length}
 use Rattle.ground.specs.Bits.{bitNumber}
 use Rattle.frames.specs.declared.Answer.{Answer}
 use Rattle.frames.specs.declared.Line.{Line}
 use Rattle.frames.specs.declared.Line.the-variants.{Released, Driven}
 use Rattle.chip.specs.declared.Chip.{Chip}
 use Rattle.chip.specs.Chip as chip
+use Rattle.ground.specs.declared.Outcome.the-variants.{Written}
+use Rattle.driver.specs.Refusals.{decodeAnswer}
+use Rattle.driver.specs.Streams.{decoded}
 
 pub data Event : Type 0 where
   sample : ℕ → Event
@@ -40,9 +45,10 @@ answers c [] = []
 answers c (sample s ∷ es) = chip.stepped c s .answer ∷ answers (happened c (sample s)) es
 answers c (tick ∷ es) = answers (happened c tick) es
 
--- 01 "Driver streams": the host notes the chip's DATA at each 14 that raises RD, 0 where the chip does not drive it.
+-- 01 "Driver streams": what the host notes of DATA where a 14 raises RD. Where the chip does not drive it that is 2, which no
+-- bit is, so that the decoder refuses it.
 abbrev pub dataNumber : Line → ℕ
-dataNumber Released = 0
+dataNumber Released = 2
 dataNumber (Driven bit) = bitNumber bit
 
 abbrev pub notes : Chip → List Event → List ℕ
@@ -51,3 +57,9 @@ notes c (sample s ∷ es) =
     let next = happened c (sample s) in
     cond (not (c .port .levels .rd) && eqb s 14) (dataNumber (next .port .line) ∷ notes next es) (notes next es)
 notes c (tick ∷ es) = notes (happened c tick) es
+
+-- What was noted reads back as these values: the driver's decoder accepts it, whatever room it is lent beyond a byte a value,
+-- and writes them.
+pub record ReadsAs (noted values : List ℕ) : Type 0 where
+  pub accepted : (room : ℕ) → length values ≤ room → decodeAnswer noted room ≡ Written (length values)
+  pub bytes : decoded noted ≡ values

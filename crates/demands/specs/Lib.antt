@@ -1,6 +1,8 @@
+pub mod Calls
 pub mod Cases
 pub mod Demand2
 pub mod Demand3
 pub mod Events
 pub mod Ranges
+pub mod Records
 pub mod Rehearsal

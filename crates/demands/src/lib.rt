@@ -5,7 +5,7 @@ ghost use lib.ListN.{length, take};
 ghost use Rattle.demands.specs.Events.{after};
 ghost use Rattle.demands.specs.Rehearsal.{paced, Rehearses};
 use chip::Chip;
-use driver::Answer;
+use ground::Outcome;
 
 // What a rehearsal comes to: what the driver answered, and the chip where the write was stopped.
 pub struct Rehearsed {

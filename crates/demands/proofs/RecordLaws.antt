@@ -1,0 +1,136 @@
+-- What calls on a valid record leave and return: it is the record of a valid chip, calls on it are events on the chip, and each
+-- part of the chip is a part of the bytes. Assumes nothing.
+use mathlib.Core.Path.{_≡_, _∙_, refl, sym, ap, ap₂}
+use mathlib.Core.Bool.{Bool, true, false, cond}
+use mathlib.Core.List.{List, [], _∷_, _++_, map}
+use Prim.Native.Nat.{ℕ, zero, suc, _+_, _*_}
+use native.Mathlib.Nat.{add-zero}
+use lib.Dec.{eqb}
+use lib.ListN.{take, drop, replicate}
+use Rattle.ground.specs.Bits.{bitAt}
+use Rattle.rules.specs.declared.Settings.{Settings}
+use Rattle.rules.specs.Ticks as ticks
+use Rattle.frames.specs.declared.Levels.{Levels}
+use Rattle.frames.specs.declared.Answer.{Answer}
+use Rattle.frames.specs.declared.Answer.the-variants.{Nothing, Opened, Closed, Dropped, Stored, Obeyed}
+use Rattle.frames.specs.Samples.{levels}
+use Rattle.frames.specs.Answers.{unfinished}
+use Rattle.chip.specs.declared.Chip.{Chip}
+use Rattle.chip.specs.Chip.{moved, advanced}
+use Rattle.chip.specs.Valid.{Valid}
+use Rattle.chip.proofs.ValidLaws.{advanced-valid}
+use Rattle.place.specs.Place.{answerCode}
+use Rattle.state.specs.Record.{frameBytes, settingsBytes, settingsOf, recordOf, recordValid, chipOf}
+use Rattle.state.proofs.ChipLaws.{valid-chip}
+use Rattle.state.proofs.TripLaws.{trip}
+use Rattle.simulator.specs.Simulator.{advanceBytes}
+use Rattle.demands.specs.Events.{Event, after, answers, notes}
+use Rattle.demands.specs.Calls.{Call, afterCalls, eventsOf, sent, passed, returns, noted}
+use Rattle.demands.specs.Records.{openingReturns, bitReturns, nibbleReturns, offerReturns, readReturns, commandReturns, noFrame}
+use Rattle.demands.proofs.CallsLaws.{after-valid, memory-bytes, port-bytes, settings-bytes, cs-byte, count-byte, advance-leaves, calls-leave, calls-tell, calls-note}
+use Rattle.demands.proofs.CommandLaws.{commandsAnswers}
+use Rattle.demands.proofs.Ports.{Sixteen, runP, high, high-answer, after-port}
+use Rattle.demands.proofs.ReadLaws.{readAnswers}
+use Rattle.demands.proofs.StreamLevels.{EndsIdle}
+use Rattle.demands.proofs.TraceLaws.{bitAnswers, nibbleAnswers}
+
+-- ---- answers as numbers
+
+bits-told : (k : ℕ) (rest : List Answer) → map answerCode (bitAnswers k ++ rest) ≡ bitReturns k ++ map answerCode rest
+unfolding answerCode
+bits-told zero rest = refl
+bits-told (suc k) rest = ap (λ (told : List ℕ). 0 ∷ 4 ∷ told) (bits-told k rest)
+
+pub nibbles-told : (at : ℕ) (ns : List ℕ) → map answerCode (nibbleAnswers at ns) ≡ nibbleReturns at ns
+unfolding answerCode
+nibbles-told at [] = refl
+nibbles-told at (n ∷ ns) = ap (λ (told : List ℕ). bitReturns 3 ++ 0 ∷ answerCode (Stored at n) ∷ told) (nibbles-told (at + 1) ns)
+
+pub offers-told : (at : ℕ) (vs : List ℕ) → map answerCode (readAnswers at vs) ≡ readReturns at vs
+unfolding answerCode
+offers-told at [] = refl
+offers-told at (v ∷ vs) =
+    ap (λ (told : List ℕ). offerReturns at (bitAt 0 v) ++ offerReturns at (bitAt 1 v) ++ offerReturns at (bitAt 2 v) ++ offerReturns at (bitAt 3 v) ++ told)
+    (offers-told (at + 1) vs)
+
+obeyed-told : (code : ℕ) → answerCode (Obeyed code) ≡ 6 + 256 * code
+unfolding answerCode
+obeyed-told code = add-zero (6 + 256 * code)
+
+pub commands-told : (codes : List ℕ) → map answerCode (commandsAnswers codes) ≡ commandReturns codes
+unfolding answerCode
+commands-told [] = refl
+commands-told (code ∷ codes) =
+    ap₂ (λ (told : ℕ) (rest : List ℕ). bitReturns 8 ++ 0 ∷ told ∷ rest) (obeyed-told code) (commands-told codes)
+
+closing-told : (high finished : Bool) → answerCode (cond high Nothing (cond finished Closed Dropped)) ≡ cond high 0 (cond finished 2 3)
+unfolding answerCode
+closing-told true finished = refl
+closing-told false true = refl
+closing-told false false = refl
+
+-- ---- what calls leave of a valid record, and what they return
+
+module _ (b : List ℕ) (valid : recordValid b ≡ true) where
+  abbrev c : Chip
+  c = chipOf b
+
+  v : Valid c
+  v = valid-chip b valid
+
+  pub memory-said : c .port .memory ≡ take 32 b
+  unfolding chipOf
+  memory-said = refl
+
+  pub settings-said : c .settings ≡ settingsOf b
+  unfolding chipOf
+  settings-said = refl
+
+  opening-told : answerCode (moved (c .port) high .answer) ∷ 1 ∷ [] ≡ openingReturns b
+  opening-told =
+      ap (λ (told : ℕ). told ∷ 1 ∷ [])
+      (ap answerCode (high-answer (c .port))
+      ∙ closing-told (c .port .levels .cs) (eqb (unfinished (c .port .phase)) 0)
+      ∙ sym (ap₂ (λ (cs : Bool) (count : ℕ). cond cs 0 (cond (eqb count 0) 2 3)) (cs-byte c v) (count-byte c v)))
+      ∙ ap openingReturns (trip b valid)
+
+  module _ (calls : List Call) where
+    abbrev es : List Event
+    es = eventsOf calls
+
+    pub leaves : afterCalls b calls ≡ recordOf (after c es)
+    leaves = ap (λ (l : List ℕ). afterCalls l calls) (sym (trip b valid)) ∙ calls-leave c calls v
+
+    pub notes-said : noted b calls ≡ notes c es
+    notes-said = ap (λ (l : List ℕ). noted l calls) (sym (trip b valid)) ∙ calls-note c calls v
+
+    pub memory-left : (m : List ℕ) → after c es .port .memory ≡ m → take 32 (afterCalls b calls) ≡ m
+    memory-left m e = ap (take 32) leaves ∙ memory-bytes (after c es) (after-valid c es v) ∙ e
+
+    pub settings-left : (s : Settings) → after c es .settings ≡ s → drop 40 (afterCalls b calls) ≡ settingsBytes s ++ replicate 6 0
+    settings-left s e =
+        ap (drop 40) leaves ∙ settings-bytes (after c es) (after-valid c es v)
+        ∙ ap (λ (x : Settings). settingsBytes x ++ replicate 6 0) e
+
+    pub ticks-left : after c es .settings ≡ ticks.advanced (passed calls) (c .settings)
+        → drop 40 (afterCalls b calls) ≡ drop 40 (advanceBytes b (passed calls))
+    ticks-left e =
+        settings-left (ticks.advanced (passed calls) (c .settings)) e
+        ∙ sym (settings-bytes (advanced (passed calls) c) (advanced-valid (passed calls) c v))
+        ∙ ap (drop 40) (sym (advance-leaves c v (passed calls)) ∙ ap (λ (l : List ℕ). advanceBytes l (passed calls)) (trip b valid))
+
+    module _ (small : Sixteen (sent calls)) where
+      pub port-left : (m : List ℕ) (ls : List Levels) → map levels (sent calls) ≡ ls → EndsIdle ls → after c es .port .memory ≡ m
+          → take 40 (afterCalls b calls) ≡ m ++ noFrame
+      port-left m ls e ends kept =
+          let same : after c es .port ≡ runP (c .port) ls = after-port c es small ∙ ap (runP (c .port)) e in
+          ap (take 40) leaves ∙ port-bytes (after c es) (after-valid c es v)
+          ∙ ap₂ _++_ kept (ap frameBytes (same ∙ ends (c .port)))
+
+      pub told : (bits : ℕ) (rest : List Answer) (numbers : List ℕ) → map answerCode rest ≡ numbers
+          → answers c es ≡ moved (c .port) high .answer ∷ Opened ∷ bitAnswers bits ++ rest
+          → returns b calls ≡ openingReturns b ++ bitReturns bits ++ numbers
+      unfolding answerCode
+      told bits rest numbers n e =
+          ap (λ (l : List ℕ). returns l calls) (sym (trip b valid)) ∙ calls-tell c calls v small ∙ ap (map answerCode) e
+          ∙ ap₂ _++_ opening-told (bits-told bits rest ∙ ap (λ (l : List ℕ). bitReturns bits ++ l) n)

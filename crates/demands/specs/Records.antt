@@ -1,0 +1,99 @@
+-- Demands 2 and 3 for a host in C: what its calls on any valid record return, and which bytes they leave. Assumes nothing.
+use mathlib.Core.Path.{_≡_}
+use mathlib.Core.Bool.{Bool, true, cond}
+use mathlib.Core.List.{List, [], _∷_, _++_}
+use Prim.Native.Nat.{ℕ, zero, suc, _+_, _*_}
+use lib.Dec.{eqb}
+use lib.ListN.{length, take, drop, replicate}
+use lib.Seq.{paste}
+use Rattle.ground.specs.Bits.{bitAt, bitNumber}
+use Rattle.frames.specs.Samples.{levels}
+use Rattle.state.specs.Record.{byte, settingsBytes, settingsOf, recordValid}
+use Rattle.simulator.specs.Simulator.{advanceBytes}
+use Rattle.driver.specs.Streams.{writeStream, readStream, commandStream}
+use Rattle.demands.specs.Events.{ReadsAs}
+use Rattle.demands.specs.Demand2.{dueCommands, between, AcceptsRead, AcceptsCommands}
+use Rattle.demands.specs.Demand3.{Accepts, completed}
+use Rattle.demands.specs.Calls.{Call, afterCalls, eventsOf, sent, passed, returns, noted}
+
+-- ---- what the samples of a stream return
+
+-- The first closes a frame that stood open, by byte 32 with unfinished bits or none, by byte 34; the second opens one.
+abbrev pub openingReturns : List ℕ → List ℕ
+openingReturns bytes = cond (levels (byte bytes 32) .cs) 0 (cond (eqb (byte bytes 34) 0) 2 3) ∷ 1 ∷ []
+
+-- n sent bits that complete nothing.
+abbrev pub bitReturns : ℕ → List ℕ
+bitReturns zero = []
+bitReturns (suc n) = 0 ∷ 4 ∷ bitReturns n
+
+-- The fourth bit of a nibble stores it, so nibble i at sample 20 + 8i; the last sample closes the frame.
+abbrev pub nibbleReturns : ℕ → List ℕ → List ℕ
+nibbleReturns at [] = 2 ∷ []
+nibbleReturns at (nibble ∷ nibbles) = bitReturns 3 ++ 0 ∷ (5 + 256 * at + 65536 * nibble) ∷ nibbleReturns (at + 1) nibbles
+
+-- Each bit of a nibble is offered, D0 first.
+abbrev pub offerReturns : ℕ → Bool → List ℕ
+offerReturns at bit = (8 + 256 * at + 65536 * bitNumber bit) ∷ 0 ∷ []
+
+abbrev pub readReturns : ℕ → List ℕ → List ℕ
+readReturns at [] = 2 ∷ []
+readReturns at (nibble ∷ nibbles) =
+    offerReturns at (bitAt 0 nibble) ++ offerReturns at (bitAt 1 nibble)
+    ++ offerReturns at (bitAt 2 nibble) ++ offerReturns at (bitAt 3 nibble) ++ readReturns (at + 1) nibbles
+
+-- The ninth bit of a command completes it.
+abbrev pub commandReturns : List ℕ → List ℕ
+commandReturns [] = 2 ∷ []
+commandReturns (code ∷ codes) = bitReturns 8 ++ 0 ∷ (6 + 256 * code) ∷ commandReturns codes
+
+-- ---- demand 2
+
+-- Bytes 32 to 39 with all lines high and no frame.
+abbrev pub noFrame : List ℕ
+noFrame = 15 ∷ replicate 7 0
+
+-- A write leaves the asked nibbles, no frame, and in bytes 40 to 63 what one `advance` by all the ticks leaves there.
+pub record CallsWrite (bytes : List ℕ) (first : ℕ) (nibbles : List ℕ) (calls : List Call) : Type 0 where
+  pub memory : take 40 (afterCalls bytes calls) ≡ paste (take 32 bytes) first nibbles (length nibbles) ++ noFrame
+  pub settings : drop 40 (afterCalls bytes calls) ≡ drop 40 (advanceBytes bytes (passed calls))
+  pub returned : returns bytes calls ≡ openingReturns bytes ++ bitReturns 9 ++ nibbleReturns first nibbles
+
+-- A read leaves the memory, and what is noted reads back as the bytes asked for.
+pub record CallsRead (bytes : List ℕ) (first count : ℕ) (calls : List Call) : Type 0 where
+  pub memory : take 40 (afterCalls bytes calls) ≡ take 32 bytes ++ noFrame
+  pub settings : drop 40 (afterCalls bytes calls) ≡ drop 40 (advanceBytes bytes (passed calls))
+  pub returned : returns bytes calls ≡ openingReturns bytes ++ bitReturns 9 ++ readReturns first (take count (drop first (take 32 bytes)))
+  pub readBack : ReadsAs (noted bytes calls) (take count (drop first (take 32 bytes)))
+
+-- Commands leave the memory, and bytes 40 to 63 as their effects, each at its sample, and the ticks between them make them.
+pub record CallsCommand (bytes codes : List ℕ) (calls : List Call) : Type 0 where
+  pub memory : take 40 (afterCalls bytes calls) ≡ take 32 bytes ++ noFrame
+  pub settings : drop 40 (afterCalls bytes calls)
+      ≡ settingsBytes (between (dueCommands 26 codes) 0 (eventsOf calls) (settingsOf bytes)) ++ replicate 6 0
+  pub returned : returns bytes calls ≡ openingReturns bytes ++ bitReturns 3 ++ commandReturns codes
+
+pub record Demand2OfRecords : Type 0 where
+  pub writes : (bytes : List ℕ) (first : ℕ) (nibbles : List ℕ) (calls : List Call) → recordValid bytes ≡ true → Accepts first nibbles
+      → sent calls ≡ writeStream first nibbles → CallsWrite bytes first nibbles calls
+  pub reads : (bytes : List ℕ) (first count : ℕ) (calls : List Call) → recordValid bytes ≡ true → AcceptsRead first count
+      → sent calls ≡ readStream first count → CallsRead bytes first count calls
+  pub commands : (bytes codes : List ℕ) (calls : List Call) → recordValid bytes ≡ true → AcceptsCommands codes
+      → sent calls ≡ commandStream codes → CallsCommand bytes codes calls
+
+-- ---- demand 3
+
+-- A write that stops after k samples, sent again, and read back.
+pub record CallsSurvive (bytes : List ℕ) (first : ℕ) (nibbles : List ℕ) (k : ℕ) (calls : List Call) : Type 0 where
+  pub memory : take 32 (afterCalls bytes calls) ≡ paste (take 32 bytes) first nibbles (completed (length nibbles) k)
+  pub settings : drop 40 (afterCalls bytes calls) ≡ drop 40 (advanceBytes bytes (passed calls))
+  pub resent : (again : List Call) → sent again ≡ writeStream first nibbles
+      → take 32 (afterCalls (afterCalls bytes calls) again) ≡ paste (take 32 bytes) first nibbles (length nibbles)
+  pub readBack : (again back : List Call) → sent again ≡ writeStream first nibbles → sent back ≡ readStream first (length nibbles)
+      → ReadsAs (noted (afterCalls (afterCalls bytes calls) again) back) nibbles
+
+abbrev pub Demand3OfRecords : Type 0
+Demand3OfRecords =
+    (bytes : List ℕ) (first : ℕ) (nibbles : List ℕ) (k : ℕ) (calls : List Call)
+    → recordValid bytes ≡ true → Accepts first nibbles → sent calls ≡ take k (writeStream first nibbles)
+    → CallsSurvive bytes first nibbles k calls
