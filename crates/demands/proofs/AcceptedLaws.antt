@@ -1,4 +1,4 @@
--- What a request that the driver accepts has passed: each refusal's test failed. Assumes nothing.
+-- What a request that the driver accepts has passed: no row of its table held. Assumes nothing.
 use mathlib.Core.Path.{_≡_, _∙_, refl, sym, ap}
 use mathlib.Core.Bool.{Bool, true, false}
 use mathlib.Core.List.{List, [], _∷_}
@@ -8,27 +8,23 @@ use native.Mathlib.Nat.{zero-add}
 use native.Mathlib.Omega.{arith}
 use lib.Dec.{ltb}
 use lib.ListN.{length, take, getD}
-use borrow.Author.Tests.{ltb-false, eqb-false, lt-ltb}
-use Rattle.ground.specs.declared.Refusal.{Refusal}
+use borrow.Author.Tests.{ltb-false, eqb-false, lt-ltb, le-ltb}
 use Rattle.ground.specs.Places.{lowest, somewhere}
 use Rattle.ground.specs.Written.{over}
 use Rattle.ground.proofs.WrittenLaws.{take-over}
 use Rattle.ground.proofs.PlacesLaws.{lowest-below, none-above}
 use Rattle.commands.specs.Commands.{codeMeaning, undefined}
 use Rattle.chip.specs.Valid.{Nibbles}
-use Rattle.ground.specs.declared.Outcome.{Outcome}
-use Rattle.ground.specs.declared.Outcome.the-variants.{Written, Refused}
-use Rattle.driver.specs.Refusals.{nothing, outsideMemory, tooMany, nibbleFault, commandFault, refusedIf, fitted, left, writeAnswer, readAnswer, commandAnswer}
+use Rattle.ground.specs.declared.Outcome.the-variants.{Written}
+use Rattle.ground.specs.Outcomes.{left}
+use Rattle.driver.specs.Refusals.{outsideMemory, nibbleFault, commandFault, writeAnswer}
 use Rattle.driver.specs.Streams.{writeStream, readStream, commandStream}
 use Rattle.driver.proofs.RefusalsLaws.{inside}
+use Rattle.driver.proofs.StreamsLaws.{write-length}
 use Rattle.demands.specs.Demand2.{AcceptsRead, AcceptsCommands}
 use Rattle.demands.specs.Demand3.{Accepts}
+use Rattle.demands.proofs.Accepted.{accepted}
 use Rattle.demands.proofs.CommandLaws.{Defined}
-
--- a success is no refusal
-passed : (test : Bool) (why : Refusal) (rest : Answer) (n : ℕ) → refusedIf test why rest ≡ Written n → (test ≡ false) × (rest ≡ Written n)
-passed true why rest n e = let z : _≡_ {A = ℕ} 0 1 = cc in let no : ⊥ = omega arith in absurd no
-passed false why rest n e = (refl, e)
 
 nibbles-from : (ns : List ℕ) → ((k : ℕ) → k < length ns → getD ns k 0 ≤ 15) → Nibbles ns
 nibbles-from [] f = tt
@@ -59,49 +55,49 @@ pub record Fit (first : ℕ) (ns : List ℕ) : Type 0 where
   pub nibbles : Nibbles ns
 
 pub accepted-write : (first : ℕ) (ns : List ℕ) → Accepts first ns → Fit first ns
-unfolding writeAnswer
+unfolding outsideMemory
 accepted-write first ns e =
-    let a = passed (nothing (length ns)) _ _ _ e in
-    let b = passed (outsideMemory first (length ns)) _ _ _ (a .1) in
-    let c = passed (somewhere nibbleFault ns) _ _ _ (b .1) in
+    let none = accepted .write first ns (length (writeStream first ns)) .acceptedOnly _ e in
     record {
-      some = omega (arith, eqb-false (length ns) 0 (a .0));
-      inside = inside first (length ns) (b .0) .1;
-      nibbles = nibbles-from ns (none-above 15 ns (ltb-false (lowest nibbleFault ns) (length ns) (c .0)));
+      some = omega (arith, eqb-false (length ns) 0 (none .0));
+      inside = inside first (length ns) (none .1 .0) .1;
+      nibbles = nibbles-from ns (none-above 15 ns (ltb-false (lowest nibbleFault ns) (length ns) (none .1 .1 .0)));
     }
 
 -- a success reports the stream's length, and there was room for it
 pub written-fits : (first : ℕ) (ns : List ℕ) (room count : ℕ) → writeAnswer first ns room ≡ Written count
     → (count ≡ length (writeStream first ns)) × (length (writeStream first ns) ≤ room)
-unfolding writeAnswer
 written-fits first ns room count e =
-    let a = passed (nothing (length ns)) _ _ _ e in
-    let b = passed (outsideMemory first (length ns)) _ _ _ (a .1) in
-    let c = passed (somewhere nibbleFault ns) _ _ _ (b .1) in
-    let d = passed (ltb room (length (writeStream first ns))) _ _ _ (c .1) in
-    (counted (d .1), ltb-false room (length (writeStream first ns)) (d .0))
+    let none = accepted .write first ns room .acceptedOnly count e in
+    let size : Written (21 + 8 * length ns) ≡ Written count = sym (accepted .write first ns room .accepted none) ∙ e in
+    let long = write-length first ns in
+    (counted size ∙ sym long, omega (arith, long, ltb-false room (21 + 8 * length ns) (none .1 .1 .1 .0)))
   where
-    counted : Written (length (writeStream first ns)) ≡ Written count → count ≡ length (writeStream first ns)
+    counted : {n m : ℕ} → Written n ≡ Written m → m ≡ n
     counted same = cc
+
+-- and what is accepted in some room is accepted in just enough
+pub accepted-enough : (first : ℕ) (ns : List ℕ) (room count : ℕ) → writeAnswer first ns room ≡ Written count → Accepts first ns
+accepted-enough first ns room count e =
+    let none = accepted .write first ns room .acceptedOnly count e in
+    let long = write-length first ns in
+    let just : ltb (length (writeStream first ns)) (21 + 8 * length ns) ≡ false = le-ltb (length (writeStream first ns)) (21 + 8 * length ns) (omega (arith, long)) in
+    accepted .write first ns (length (writeStream first ns)) .accepted (none .0, (none .1 .0, (none .1 .1 .0, (just, tt)))) ∙ ap Written (sym long)
 
 -- ---- a read
 
 pub accepted-read : (first count : ℕ) → AcceptsRead first count → (0 < count) × (first + count ≤ 32)
-unfolding readAnswer
+unfolding outsideMemory
 accepted-read first count e =
-    let a = passed (nothing count) _ _ _ e in
-    let b = passed (outsideMemory first count) _ _ _ (a .1) in
-    (omega (arith, eqb-false count 0 (a .0)), inside first count (b .0) .1)
+    let none = accepted .read first count (length (readStream first count)) .acceptedOnly _ e in
+    (omega (arith, eqb-false count 0 (none .0)), inside first count (none .1 .0) .1)
 
 -- ---- commands
 
 pub accepted-commands : (codes : List ℕ) → AcceptsCommands codes → Defined codes
-unfolding commandAnswer
 accepted-commands codes e =
-    let a = passed (nothing (length codes)) _ _ _ e in
-    let b = passed (tooMany (length codes)) _ _ _ (a .1) in
-    let c = passed (somewhere commandFault codes) _ _ _ (b .1) in
-    let none = ltb-false (lowest commandFault codes) (length codes) (c .0) in
+    let none = accepted .commands codes (length (commandStream codes)) .acceptedOnly _ e in
+    let clean = ltb-false (lowest commandFault codes) (length codes) (none .1 .1 .0) in
     defined-from codes (λ k h. lowest-below commandFault codes k (commandFault (getD codes k 0)) refl (omega arith))
 
 -- ---- what stands in the buffer

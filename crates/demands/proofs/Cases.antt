@@ -1,11 +1,7 @@
 -- The cases of 01, computed from the definitions. Assumes nothing.
 use mathlib.Core.Path.{_≡_, _∙_, refl, ap}
 use mathlib.Core.Bool.{Bool, true, false}
-use mathlib.Core.List.{List, [], _∷_}
-use Prim.Native.Nat.{ℕ, _+_, _*_, _≤_}
-use native.Mathlib.Omega.{arith}
-use lib.ListN.{length}
-use borrow.Author.Tests.{le-ltb}
+use Prim.Native.Nat.{ℕ}
 use Rattle.commands.specs.Commands.{byteMeaning}
 use Rattle.clock.specs.declared.Source.{Source}
 use Rattle.rules.specs.declared.IrqSource.{IrqSource}
@@ -16,9 +12,8 @@ use Rattle.clock.specs.Ticks.{due, timerStepped, baseTicked, prescaledTick, cou
 use Rattle.pins.specs.Pins.{irqLow}
 use Rattle.frames.specs.Frames.{frame, closed}
 use Rattle.chip.specs.Chip.{stepped, moved, framedBy, memoryAfter, settingsAfter, obeyedAs}
-use Rattle.driver.specs.Refusals.{writeAnswer, outsideMemory}
-use Rattle.driver.specs.Streams.{writeStream, commandStream}
-use Rattle.driver.proofs.StreamsLaws.{write-length}
+use Rattle.driver.specs.Streams.{commandStream}
+use Rattle.driver.proofs.CasesLaws.{write-one, write-thirty-two, read-one, read-thirty-two, write-at-31, write-past-31, read-at-31, read-past-31}
 use Rattle.demands.specs.Cases.{Cleared, Cases}
 
 -- ---- where (h), (i) and (j) begin: what their conditions name are numbers there, and the ticks can be computed
@@ -42,11 +37,11 @@ with-conditions on clock output source base rate p d b w flag s =
       test = s .test;
     }
 
-begins : {clock : Source} {source : IrqSource} {output : Bool} {p : ℕ} (s : Settings) → Cleared clock source s → s .irq .on ≡ output
+begins : {clock : Source} {source : IrqSource} {output : Bool} {p : ℕ} (s : Settings) → Cleared clock s → s .irq .source ≡ source → s .irq .on ≡ output
     → s .counters .prescaler .count ≡ p → s ≡ with-conditions true clock output source true 7 p 0 0 0 false s
-begins s c switched prescaled =
+begins s c from switched prescaled =
     λ i.
-    with-conditions (c .systemOn i) (c .clocked i) (switched i) (c .irqFrom i) (c .timeBaseOn i) (c .rateSeven i) (prescaled i)
+    with-conditions (c .systemOn i) (c .clocked i) (switched i) (from i) (c .timeBaseOn i) (c .rateSeven i) (prescaled i)
     (c .dZero i) (c .bZero i) (c .wZero i) (c .flagOff i) s
 
 -- what n ticks bring and m do not from there, they bring and do not bring from here
@@ -59,18 +54,18 @@ abbrev flag-set : Settings → Bool
 flag-set s = s .counters .timer .watchdog .flag
 
 pub cases : Cases
-unfolding byteMeaning effect running ticked advanced due timerStepped baseTicked prescaledTick countersTicked irqLow frame closed stepped moved framedBy memoryAfter settingsAfter obeyedAs writeAnswer outsideMemory writeStream commandStream
+unfolding byteMeaning effect running ticked advanced due timerStepped baseTicked prescaledTick countersTicked irqLow frame closed stepped moved framedBy memoryAfter settingsAfter obeyedAs commandStream
 cases =
     record {
       a = λ memory. (refl, refl);
-      b = λ chip. refl;
-      c = λ first nibbles. (λ e. write-length first nibbles ∙ ap (λ (n : ℕ). 21 + 8 * n) e, λ e. write-length first nibbles ∙ ap (λ (n : ℕ). 21 + 8 * n) e);
-      d = λ n m room. (λ h. simp (le-ltb 15 n h), refl);
+      b = λ chip. (refl, refl);
+      c = λ first nibbles. (write-one first nibbles, write-thirty-two first nibbles, read-one first, read-thirty-two first);
+      d = λ n m room. (write-at-31 n room, write-past-31 n m room, read-at-31 room, read-past-31 room);
       e = λ code. refl;
       f = (refl, refl);
       g = λ s. (refl, refl, refl, refl);
-      h = λ s c. brought (begins s c refl refl) flag-set 1024 1023 (refl, refl);
-      i = λ s c on. brought (begins s c on refl) irqLow 128 127 (refl, refl);
-      j = λ s c on p. brought (begins s c on p) irqLow 1024 1023 (refl, refl);
+      h = λ s c. brought (begins s c refl refl refl) flag-set 1024 1023 (refl, refl);
+      i = λ s c source on. brought (begins s c source on refl) irqLow 128 127 (refl, refl);
+      j = λ s c source on p. brought (begins s c source on p) irqLow 1024 1023 (refl, refl);
       k = refl;
     }

@@ -19,6 +19,7 @@ use Rattle.chip.specs.Valid.{Nibbles, Valid}
 use Rattle.driver.specs.Streams.{writeStream, readStream, commandStream}
 use Rattle.demands.specs.Events.{Event, samples, answers}
 use Rattle.demands.specs.Demand2.{StoredAt, ObeyedAt, storedBy, stores, dueStores, obeyedBy, obeys, dueCommands, lastAnswer, between, Writes, Reads, Commands, Demand2}
+use Rattle.demands.proofs.Accepted.{accepted}
 use Rattle.demands.proofs.AcceptedLaws.{Fit, accepted-write, accepted-read, accepted-commands}
 use Rattle.demands.proofs.CommandLaws.{Defined, commandsAnswers, commandL, command-memory, stream-answers}
 use Rattle.demands.proofs.Demand3.{sets-whole, opened-plain, nibbles-plain, write-done, read-done}
@@ -192,6 +193,7 @@ module _ (c : Chip) (codes : List ℕ) (es : List Event) (v : Defined codes) (e 
 pub demand2 : Demand2
 demand2 =
     record {
+      accepted = accepted;
       writes = λ c first ns es valid accepts e. writes c first ns es valid (accepted-write first ns accepts) e;
       reads = λ c first count es valid accepts e. reads c first count es valid (accepted-read first count accepts) e;
       commands = λ c codes es valid accepts e. commands c codes es (accepted-commands codes accepts) e;

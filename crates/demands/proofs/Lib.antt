@@ -1,3 +1,4 @@
+pub mod Accepted
 pub mod AcceptedLaws
 pub mod CallsLaws
 pub mod Cases

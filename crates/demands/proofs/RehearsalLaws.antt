@@ -18,12 +18,13 @@ use Rattle.ground.specs.Written.{over}
 use Rattle.ground.proofs.WrittenLaws.{length-over}
 use Rattle.ground.specs.declared.Outcome.{Outcome}
 use Rattle.ground.specs.declared.Outcome.the-variants.{Written, Refused}
-use Rattle.driver.specs.Refusals.{nothing, outsideMemory, nibbleFault, refusedIf, fitted, writeAnswer, left, Does}
+use Rattle.ground.specs.Outcomes.{left, ComesTo}
+use Rattle.driver.specs.Refusals.{writeAnswer}
 use Rattle.driver.specs.Streams.{writeStream}
 use Rattle.demands.specs.Events.{after, samples, ticks}
 use Rattle.demands.specs.Demand3.{Accepts, Survives}
 use Rattle.demands.specs.Rehearsal.{paced, stopped, Rehearses, Demand3OfRehearsals}
-use Rattle.demands.proofs.AcceptedLaws.{written-fits, buffer-holds}
+use Rattle.demands.proofs.AcceptedLaws.{written-fits, accepted-enough, buffer-holds}
 use Rattle.demands.proofs.Demand3.{demand3}
 use Rattle.demands.proofs.EventsLaws.{after-pause, samples-pause, ticks-pause}
 
@@ -60,34 +61,20 @@ paced-ticks pause (s ∷ ss) =
     let more = suc-mul (length ss) pause in
     ticks-pause pause (paced pause ss) ∙ omega arith
 
--- a success stays one where only what comes after a test is another
-still : (test : Bool) (why : Refusal) {rest rest' : Answer} {n m : ℕ} → refusedIf test why rest ≡ Written n
-    → (rest ≡ Written n → rest' ≡ Written m) → refusedIf test why rest' ≡ Written m
-still true why e f = let z : _≡_ {A = ℕ} 0 1 = cc in let no : ⊥ = omega arith in absurd no
-still false why e f = f e
-
--- what is accepted in some room is accepted in just enough
-accepted : (first : ℕ) (ns : List ℕ) (room count : ℕ) → writeAnswer first ns room ≡ Written count → Accepts first ns
-unfolding writeAnswer
-accepted first ns room count e =
-    let long = length (writeStream first ns) in
-    let fits : fitted (writeStream first ns) long ≡ Written long = rw (le-ltb long long (omega arith)) in
-    still (nothing (length ns)) _ e (λ e₁. still (outsideMemory first (length ns)) _ e₁ (λ e₂. still (somewhere nibbleFault ns) _ e₂ (λ e₃. fits)))
-
 pub rehearsed-survives : Demand3OfRehearsals
 rehearsed-survives c first ns stop pause before r after' count valid did e =
     let fed = take stop (writeStream first ns) in
     let due : writeAnswer first ns (length before) ≡ Written count = sym (did .answer) ∙ e in
     let end : after c (paced pause fed) ≡ r .chip =
-    sym (did .end ∙ ap (λ (a : Answer). stopped a c stop pause (writeStream first ns)) due) in
+    sym (did .end ∙ ap (λ (a : Outcome). stopped a c stop pause (writeStream first ns)) due) in
     subst (λ n. Survives c first ns stop n (r .chip)) (paced-ticks pause fed)
     (subst (Survives c first ns stop (ticks (paced pause fed))) end
-    (demand3 c first ns stop (paced pause fed) valid (accepted first ns (length before) count due) (paced-samples pause fed)))
+    (demand3 c first ns stop (paced pause fed) valid (accepted-enough first ns (length before) count due) (paced-samples pause fed)))
 
 -- ---- what the driver's call leaves, and what is fed
 
-module _ (first : ℕ) (ns : List ℕ) {before after' : List ℕ} {r : Answer}
-    (did : Does (writeAnswer first ns (length before)) (writeStream first ns) before r after') where
+module _ (first : ℕ) (ns : List ℕ) {before after' : List ℕ} {r : Outcome}
+    (did : ComesTo (writeAnswer first ns (length before)) (writeStream first ns) before r after') where
   -- a success: the stream stands at the start, and its length is what was reported
   pub written : {count : ℕ} → r ≡ Written count
       → (writeAnswer first ns (length before) ≡ Written count) × (count ≡ length (writeStream first ns))
@@ -95,7 +82,7 @@ module _ (first : ℕ) (ns : List ℕ) {before after' : List ℕ} {r : Answer}
   written {count} e =
       let due : writeAnswer first ns (length before) ≡ Written count = sym (did .answer) ∙ e in
       let fits = written-fits first ns (length before) count due in
-      (due, fits .0, fits .1, did .bytes ∙ ap (λ (a : Answer). left a (writeStream first ns) before) due)
+      (due, fits .0, fits .1, did .bytes ∙ ap (λ (a : Outcome). left a (writeStream first ns) before) due)
 
   pub count-fits : {count : ℕ} → r ≡ Written count → count ≤ length after'
   count-fits {count} e =
@@ -117,7 +104,7 @@ module _ (first : ℕ) (ns : List ℕ) {before after' : List ℕ} {r : Answer}
             (ap (λ (n : ℕ). take n after') (w .1)
             ∙ ap (take (length (writeStream first ns))) (w .3)
             ∙ buffer-holds (writeStream first ns) before count (w .2))
-            ∙ ap (λ (a : Answer). stopped a c stop pause (writeStream first ns)) (sym (w .0));
+            ∙ ap (λ (a : Outcome). stopped a c stop pause (writeStream first ns)) (sym (w .0));
       }
 
   pub refuses : {c : Chip} {stop pause : ℕ} {why : Refusal} → r ≡ Refused why
@@ -126,5 +113,5 @@ module _ (first : ℕ) (ns : List ℕ) {before after' : List ℕ} {r : Answer}
       record {
         answer = did .answer;
         bytes = did .bytes;
-        end = ap (λ (a : Answer). stopped a c stop pause (writeStream first ns)) (sym e ∙ did .answer);
+        end = ap (λ (a : Outcome). stopped a c stop pause (writeStream first ns)) (sym e ∙ did .answer);
       }

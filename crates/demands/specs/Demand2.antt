@@ -1,5 +1,6 @@
--- Demand 2: what the driver writes for an accepted request, fed to the model, does what was asked, and a read-back decodes to
--- the memory read; from any valid chip, with ticks falling anywhere. Assumes nothing.
+-- Demand 2: requests are accepted exactly where the table says (Accepted.antt); what the driver writes for one that is, fed to the
+-- model, does what was asked, and a read-back decodes to the memory read; from any valid chip, with ticks falling anywhere.
+-- Assumes nothing.
 use mathlib.Core.Path.{_≡_}
 use mathlib.Core.Bool.{cond}
 use mathlib.Core.List.{List, [], _∷_}
@@ -22,6 +23,7 @@ use Rattle.ground.specs.declared.Outcome.the-variants.{Written}
 use Rattle.driver.specs.Refusals.{writeAnswer, readAnswer, commandAnswer}
 use Rattle.driver.specs.Streams.{writeStream, readStream, commandStream}
 use Rattle.demands.specs.Events.{Event, sample, tick, after, samples, ticks, answers, notes, ReadsAs}
+use Rattle.demands.specs.Accepted.{Accepted}
 use Rattle.demands.specs.Demand3.{Accepts}
 
 -- The last answer of some, the first where there are none.
@@ -116,6 +118,7 @@ abbrev pub AcceptsCommands : List ℕ → Type 0
 AcceptsCommands codes = commandAnswer codes (length (commandStream codes)) ≡ Written (length (commandStream codes))
 
 pub record Demand2 : Type 0 where
+  pub accepted : Accepted
   pub writes : (chip : Chip) (first : ℕ) (nibbles : List ℕ) (events : List Event) → Valid chip → Accepts first nibbles
       → samples events ≡ writeStream first nibbles → Writes chip first nibbles events
   pub reads : (chip : Chip) (first count : ℕ) (events : List Event) → Valid chip → AcceptsRead first count

@@ -7,7 +7,8 @@ use Rattle.chip.specs.declared.Chip.{Chip}
 use Rattle.chip.specs.Valid.{Valid}
 use Rattle.ground.specs.declared.Outcome.{Outcome}
 use Rattle.ground.specs.declared.Outcome.the-variants.{Written, Refused}
-use Rattle.driver.specs.Refusals.{writeAnswer, left}
+use Rattle.ground.specs.Outcomes.{left}
+use Rattle.driver.specs.Refusals.{writeAnswer}
 use Rattle.driver.specs.Streams.{writeStream}
 use Rattle.demands.specs.declared.Rehearsed.{Rehearsed}
 use Rattle.demands.specs.Events.{Event, sample, tick, after}
@@ -19,7 +20,7 @@ paced pause [] = []
 paced pause (s ∷ ss) = sample s ∷ replicate pause tick ++ paced pause ss
 
 -- Where the write was stopped: after its first samples; a refused one never began.
-abbrev pub stopped : Answer → Chip → ℕ → ℕ → List ℕ → Chip
+abbrev pub stopped : Outcome → Chip → ℕ → ℕ → List ℕ → Chip
 stopped (Written count) chip stop pause stream = after chip (paced pause (take stop stream))
 stopped (Refused why) chip stop pause stream = chip
 

@@ -9,7 +9,7 @@ use ground::Outcome;
 
 // What a rehearsal comes to: what the driver answered, and the chip where the write was stopped.
 pub struct Rehearsed {
-    pub answer: Answer,
+    pub answer: Outcome,
     pub chip: Chip,
 }
 
@@ -41,10 +41,10 @@ pub fn rehearse(
 {
     let answer = driver::write(first, nibbles, room);
     match answer {
-        Answer::Written(count) => {
+        Outcome::Written(count) => {
             let chip = fed(chip, &room[..count], stop, pause);
             Rehearsed { answer, chip }
         }
-        Answer::Refused(_) => Rehearsed { answer, chip },
+        Outcome::Refused(_) => Rehearsed { answer, chip },
     }
 }

@@ -98,32 +98,53 @@ few-noted count e = second (eqb count 0) (ltb 128 count) (not (eqb (count % 4) 0
 pub write-small : (first : ℕ) (nibbles : List ℕ) (room : ℕ) → Small (writeAnswer first nibbles room)
 unfolding writeAnswer
 write-small first nibbles room =
-    ladder-small (writeRefusals first nibbles room) (length (writeStream first nibbles)) (omega arith, λ some. (omega arith, λ e.
-    let few = inside first (length nibbles) e .1 in (
-      omega (arith, few, place-within nibbleFault nibbles),
-      λ clean. (omega arith, λ fits. omega (arith, few, write-length first nibbles)),
-    )))
+    ladder-small (writeRefusals first nibbles room) (length (writeStream first nibbles)) (
+      omega arith,
+      λ some. (
+        omega arith,
+        λ e.
+            let few = inside first (length nibbles) e .1 in (
+              omega (arith, few, place-within nibbleFault nibbles),
+              λ clean. (omega arith, λ fits. omega (arith, few, write-length first nibbles)),
+            ),
+      ),
+    )
 
 pub read-small : (first count room : ℕ) → Small (readAnswer first count room)
 unfolding readAnswer
 read-small first count room =
-    ladder-small (readRefusals first count room) (length (readStream first count)) (omega arith, λ some. (omega arith, λ e.
-    (omega arith, λ fits. omega (arith, inside first count e .1, read-length first count))))
+    ladder-small (readRefusals first count room) (length (readStream first count)) (
+      omega arith,
+      λ some. (
+        omega arith,
+        λ e.
+            (omega arith, λ fits. omega (arith, inside first count e .1, read-length first count)),
+      ),
+    )
 
 pub commands-small : (codes : List ℕ) (room : ℕ) → Small (commandAnswer codes room)
 unfolding commandAnswer tooMany
 commands-small codes room =
-    ladder-small (commandRefusals codes room) (length (commandStream codes)) (omega arith, λ some. (omega arith, λ e.
-    let few = ltb-false 32 (length codes) e in (
-      omega (arith, few, place-within commandFault codes),
-      λ clean. (omega arith, λ fits. omega (arith, few, commands-length codes)),
-    )))
+    ladder-small (commandRefusals codes room) (length (commandStream codes)) (
+      omega arith,
+      λ some. (
+        omega arith,
+        λ e.
+            let few = ltb-false 32 (length codes) e in (
+              omega (arith, few, place-within commandFault codes),
+              λ clean. (omega arith, λ fits. omega (arith, few, commands-length codes)),
+            ),
+      ),
+    )
 
 pub decode-small : (noted : List ℕ) (room : ℕ) → Small (decodeAnswer noted room)
 unfolding decodeAnswer
 decode-small noted room =
-    ladder-small (decodeRefusals noted room) (length (decoded noted)) (omega arith, λ e.
-    let few = few-noted (length noted) e in (
-      omega (arith, few, place-within notedFault noted),
-      λ clean. (omega arith, λ fits. omega (arith, few, decoded-length noted)),
-    ))
+    ladder-small (decodeRefusals noted room) (length (decoded noted)) (
+      omega arith,
+      λ e.
+          let few = few-noted (length noted) e in (
+            omega (arith, few, place-within notedFault noted),
+            λ clean. (omega arith, λ fits. omega (arith, few, decoded-length noted)),
+          ),
+    )

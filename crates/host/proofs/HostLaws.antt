@@ -140,5 +140,8 @@ module _ (memory bytes : List ℕ) (powered : PoweredOn) (e : powered ≡ powere
 pub power-on-small : (memory : List ℕ) (room : ℕ) → Small (powerOnAnswer memory room)
 unfolding powerOnAnswer
 power-on-small memory room =
-    ladder-small (recordRefusals memory room) 64 (omega arith, λ long.
-    (omega (arith, of-32 memory long, place-within (ltb 15) memory), λ clean. (omega arith, λ fits. omega arith)))
+    ladder-small (recordRefusals memory room) 64 (
+      omega arith,
+      λ long.
+          (omega (arith, of-32 memory long, place-within (ltb 15) memory), λ clean. (omega arith, λ fits. omega arith)),
+    )

@@ -1,0 +1,57 @@
+-- Demand 2, its first half: which requests are accepted. 01 "Driver streams" has a table of refusals; here it stands call by call,
+-- in the paper's numbers, and each call succeeds exactly where no row holds. For every request, and every room. Assumes nothing.
+use mathlib.Core.Bool.{not, _||_}
+use mathlib.Core.List.{List, [], _∷_}
+use Prim.Native.Nat.{ℕ, _+_, _*_, _/_, _%_}
+use lib.Dec.{eqb, ltb}
+use lib.ListN.{length}
+use Rattle.ground.specs.Outcomes.{Row, row, AsTabled}
+use Rattle.ground.specs.Places.{lowest, somewhere}
+use Rattle.commands.specs.Commands.{commandFault}
+use Rattle.driver.specs.Refusals.{writeAnswer, readAnswer, commandAnswer, decodeAnswer}
+use Rattle.host.specs.Host.{powerOnAnswer}
+
+-- A row is a test, a number and a place. Writing nibbles from `first` on into a buffer of `room` bytes:
+abbrev pub writeTable : ℕ → List ℕ → ℕ → List Row
+writeTable first nibbles room =
+    row (eqb (length nibbles) 0) 21 0
+    ∷ row (ltb 31 first || ltb 32 (first + length nibbles)) 22 0
+    ∷ row (somewhere (ltb 15) nibbles) 23 (lowest (ltb 15) nibbles)
+    ∷ row (ltb room (21 + 8 * length nibbles)) 25 0 ∷ []
+
+-- Reading `count` nibbles.
+abbrev pub readTable : ℕ → ℕ → ℕ → List Row
+readTable first count room =
+    row (eqb count 0) 21 0
+    ∷ row (ltb 31 first || ltb 32 (first + count)) 22 0
+    ∷ row (ltb room (21 + 8 * count)) 25 0 ∷ []
+
+-- Giving commands.
+abbrev pub commandTable : List ℕ → ℕ → List Row
+commandTable codes room =
+    row (eqb (length codes) 0) 21 0
+    ∷ row (ltb 32 (length codes)) 22 0
+    ∷ row (somewhere commandFault codes) 24 (lowest commandFault codes)
+    ∷ row (ltb room (9 + 18 * length codes)) 25 0 ∷ []
+
+-- Decoding noted bytes.
+abbrev pub decodeTable : List ℕ → ℕ → List Row
+decodeTable noted room =
+    row (eqb (length noted) 0 || ltb 128 (length noted) || not (eqb (length noted % 4) 0)) 26 0
+    ∷ row (somewhere (ltb 1) noted) 27 (lowest (ltb 1) noted)
+    ∷ row (ltb room (length noted / 4)) 25 0 ∷ []
+
+-- Power-on with a memory, into a buffer for its record.
+abbrev pub powerOnTable : List ℕ → ℕ → List Row
+powerOnTable memory room =
+    row (not (eqb (length memory) 32)) 29 0
+    ∷ row (somewhere (ltb 15) memory) 23 (lowest (ltb 15) memory)
+    ∷ row (ltb room 64) 25 0 ∷ []
+
+pub record Accepted : Type 0 where
+  pub write : (first : ℕ) (nibbles : List ℕ) (room : ℕ)
+      → AsTabled (writeTable first nibbles room) (21 + 8 * length nibbles) (writeAnswer first nibbles room)
+  pub read : (first count room : ℕ) → AsTabled (readTable first count room) (21 + 8 * count) (readAnswer first count room)
+  pub commands : (codes : List ℕ) (room : ℕ) → AsTabled (commandTable codes room) (9 + 18 * length codes) (commandAnswer codes room)
+  pub decode : (noted : List ℕ) (room : ℕ) → AsTabled (decodeTable noted room) (length noted / 4) (decodeAnswer noted room)
+  pub powerOn : (memory : List ℕ) (room : ℕ) → AsTabled (powerOnTable memory room) 64 (powerOnAnswer memory room)
