@@ -1,4 +1,5 @@
--- What a host in C does: it has no chip but the 64 bytes of a record, and calls `step` and `advance` on them. Assumes nothing.
+-- 01 "State record and simulator": what a host in C does, which has no chip but the 64 bytes of a record and calls `step` and
+-- `advance` on them. Assumes nothing.
 use mathlib.Core.Path.{_≡_}
 use mathlib.Core.Bool.{true, cond, not, _&&_}
 use mathlib.Core.List.{List, [], _∷_, _++_}
@@ -24,7 +25,7 @@ abbrev pub afterCalls : List ℕ → List Call → List ℕ
 afterCalls bytes [] = bytes
 afterCalls bytes (call ∷ calls) = afterCalls (called bytes call) calls
 
--- What happens by them; the samples among that, and how many ticks.
+-- The events that they are, an `advance` so many ticks; the samples sent by them, and how many ticks passed.
 abbrev pub eventsOf : List Call → List Event
 eventsOf [] = []
 eventsOf (step s ∷ calls) = sample s ∷ eventsOf calls
@@ -42,8 +43,8 @@ returns bytes [] = []
 returns bytes (step s ∷ calls) = stepReturns bytes s ∷ returns (called bytes (step s)) calls
 returns bytes (advance n ∷ calls) = returns (called bytes (advance n)) calls
 
--- 01 "Driver streams": what the host notes where a 14 raises RD, by byte 32 before it and byte 39 after it. DATA released is 2,
--- which no bit is.
+-- 01 "Driver streams": what the host notes where a 14 raises RD, by byte 32 before it and byte 39 after it. DATA that is not
+-- driven is noted as 2, which no bit is.
 abbrev pub dataNoted : ℕ → ℕ
 dataNoted zero = 2
 dataNoted (suc zero) = 0

@@ -58,8 +58,8 @@ notes c (sample s ∷ es) =
     cond (not (c .port .levels .rd) && eqb s 14) (dataNumber (next .port .line) ∷ notes next es) (notes next es)
 notes c (tick ∷ es) = notes (happened c tick) es
 
--- What was noted reads back as these values: the driver's decoder accepts it, whatever room it is lent beyond a byte a value,
--- and writes them.
+-- What was noted reads back as these values: the driver's decoder accepts it in any room of at least a byte a value, and the
+-- bytes that it writes are the values.
 pub record ReadsAs (noted values : List ℕ) : Type 0 where
   pub accepted : (room : ℕ) → length values ≤ room → decodeAnswer noted room ≡ Written (length values)
   pub bytes : decoded noted ≡ values

@@ -16,23 +16,24 @@ use Rattle.demands.specs.Demand2.{dueCommands, between, AcceptsRead, Acc
 use Rattle.demands.specs.Demand3.{Accepts, completed}
 use Rattle.demands.specs.Calls.{Call, afterCalls, eventsOf, sent, passed, returns, noted}
 
--- ---- what the samples of a stream return
+-- ---- 01 "What a sample is answered", for the samples of each stream, as the numbers that `step` returns
 
--- The first closes a frame that stood open, by byte 32 with unfinished bits or none, by byte 34; the second opens one.
+-- The first closes what stood open: nothing where CS was high (byte 32), otherwise a frame with unfinished bits or without
+-- (byte 34). The second opens a frame.
 abbrev pub openingReturns : List ℕ → List ℕ
 openingReturns bytes = cond (levels (byte bytes 32) .cs) 0 (cond (eqb (byte bytes 34) 0) 2 3) ∷ 1 ∷ []
 
--- n sent bits that complete nothing.
+-- Some sent bits that complete nothing: each is taken at the second of its samples.
 abbrev pub bitReturns : ℕ → List ℕ
 bitReturns zero = []
 bitReturns (suc n) = 0 ∷ 4 ∷ bitReturns n
 
--- The fourth bit of a nibble stores it, so nibble i at sample 20 + 8i; the last sample closes the frame.
+-- The fourth bit of a nibble stores it: after 20 samples of the head, the eighth of each eight. The last sample closes the frame.
 abbrev pub nibbleReturns : ℕ → List ℕ → List ℕ
 nibbleReturns at [] = 2 ∷ []
 nibbleReturns at (nibble ∷ nibbles) = bitReturns 3 ++ 0 ∷ (5 + 256 * at + 65536 * nibble) ∷ nibbleReturns (at + 1) nibbles
 
--- Each bit of a nibble is offered, D0 first.
+-- The four bits of a nibble are offered, D0 first.
 abbrev pub offerReturns : ℕ → Bool → List ℕ
 offerReturns at bit = (8 + 256 * at + 65536 * bitNumber bit) ∷ 0 ∷ []
 
@@ -49,11 +50,11 @@ commandReturns (code ∷ codes) = bitReturns 8 ++ 0 ∷ (6 + 256 * code) ∷ com
 
 -- ---- demand 2
 
--- Bytes 32 to 39 with all lines high and no frame.
+-- Bytes 32 to 39 where all lines are high and no frame is open.
 abbrev pub noFrame : List ℕ
 noFrame = 15 ∷ replicate 7 0
 
--- A write leaves the asked nibbles, no frame, and in bytes 40 to 63 what one `advance` by all the ticks leaves there.
+-- A write leaves the asked nibbles and no frame, and in bytes 40 to 63 what one `advance` by all the ticks leaves there.
 pub record CallsWrite (bytes : List ℕ) (first : ℕ) (nibbles : List ℕ) (calls : List Call) : Type 0 where
   pub memory : take 40 (afterCalls bytes calls) ≡ paste (take 32 bytes) first nibbles (length nibbles) ++ noFrame
   pub settings : drop 40 (afterCalls bytes calls) ≡ drop 40 (advanceBytes bytes (passed calls))
@@ -83,7 +84,7 @@ pub record Demand2OfRecords : Type 0 where
 
 -- ---- demand 3
 
--- A write that stops after k samples, sent again, and read back.
+-- A write that stops after k samples: what it leaves, also when it is then sent again, and what a read-back after that notes.
 pub record CallsSurvive (bytes : List ℕ) (first : ℕ) (nibbles : List ℕ) (k : ℕ) (calls : List Call) : Type 0 where
   pub memory : take 32 (afterCalls bytes calls) ≡ paste (take 32 bytes) first nibbles (completed (length nibbles) k)
   pub settings : drop 40 (afterCalls bytes calls) ≡ drop 40 (advanceBytes bytes (passed calls))
