@@ -1,5 +1,6 @@
 -- Each call answers by a ladder, and its ladder is the table: row by row, once the stream's length is known. Assumes nothing.
 use mathlib.Core.Path.{_≡_, refl, sym, ap, subst}
+use mathlib.Core.Bool.{Bool, true, false, cond, not}
 use mathlib.Core.List.{List, map}
 use Prim.Native.Nat.{ℕ, _+_, _*_, _/_}
 use lib.ListN.{length}
@@ -12,6 +13,8 @@ use Rattle.driver.specs.Refusals.{writeRefusals, readRefusals, commandRefusals,
 use Rattle.driver.specs.Refusals.{writeAnswer, readAnswer, commandAnswer, decodeAnswer}
 use Rattle.driver.specs.Streams.{writeStream, readStream, commandStream, decoded}
 use Rattle.driver.proofs.StreamsLaws.{write-length, read-length, commands-length, decoded-length}
+use Rattle.state.specs.Record.{recordValid}
+use Rattle.simulator.specs.Simulator.{stepReturns, advanceReturns, pinsReturns}
 use Rattle.host.specs.Host.{recordRefusals, powerOnAnswer}
 use Rattle.demands.specs.Accepted.{writeTable, readTable, commandTable, decodeTable, powerOnTable, Accepted}
 
@@ -22,8 +25,13 @@ tabled rungs size table bytes rows same =
     subst (λ t. AsTabled t bytes (ladder Refused rungs (Written size))) rows
     (subst (λ n. AsTabled (map rowOf rungs) n (ladder Refused rungs (Written size))) same (ladder-tabled rungs size))
 
+-- a choice by what is refused, or by what is not
+turned : (test : Bool) (x y : ℕ) → cond test x y ≡ cond (not test) y x
+turned true x y = refl
+turned false x y = refl
+
 pub accepted : Accepted
-unfolding writeAnswer readAnswer commandAnswer decodeAnswer powerOnAnswer outsideMemory tooMany miscounted
+unfolding stepReturns advanceReturns pinsReturns writeAnswer readAnswer commandAnswer decodeAnswer powerOnAnswer outsideMemory tooMany miscounted
 accepted =
     record {
       write = λ first nibbles room.
@@ -39,4 +47,7 @@ accepted =
           tabled (decodeRefusals noted room) (length (decoded noted)) (decodeTable noted room) (length noted / 4)
           (rw (decoded-length noted) refl) (decoded-length noted);
       powerOn = λ memory room. tabled (recordRefusals memory room) 64 (powerOnTable memory room) 64 refl refl;
+      step = λ bytes sample. turned (recordValid bytes) _ _;
+      advance = λ bytes. turned (recordValid bytes) _ _;
+      pins = λ bytes cells. turned (recordValid bytes) _ _;
     }

@@ -1,13 +1,19 @@
 -- Demand 2, its first half: which requests are accepted. 01 "Driver streams" has a table of refusals; here it stands call by call,
 -- in the paper's numbers, and each call succeeds exactly where no row holds. For every request, and every room. Assumes nothing.
+use mathlib.Core.Path.{_≡_}
 use mathlib.Core.Bool.{not, _||_}
 use mathlib.Core.List.{List, [], _∷_}
 use Prim.Native.Nat.{ℕ, _+_, _*_, _/_, _%_}
 use lib.Dec.{eqb, ltb}
 use lib.ListN.{length}
-use Rattle.ground.specs.Outcomes.{Row, row, AsTabled}
+use Rattle.ground.specs.Outcomes.{Row, row, numberBy, AsTabled}
 use Rattle.ground.specs.Places.{lowest, somewhere}
 use Rattle.commands.specs.Commands.{commandFault}
+use Rattle.chip.specs.Chip.{stepped}
+use Rattle.chip.specs.Pins.{pinsShown}
+use Rattle.place.specs.Place.{answerCode}
+use Rattle.state.specs.Record.{recordValid, chipOf}
+use Rattle.simulator.specs.Simulator.{pinsCode, stepReturns, advanceReturns, pinsReturns}
 use Rattle.driver.specs.Refusals.{writeAnswer, readAnswer, commandAnswer, decodeAnswer}
 use Rattle.host.specs.Host.{powerOnAnswer}
 
@@ -48,6 +54,16 @@ powerOnTable memory room =
     ∷ row (somewhere (ltb 15) memory) 23 (lowest (ltb 15) memory)
     ∷ row (ltb room 64) 25 0 ∷ []
 
+-- A sample, ticks and the pins of a record.
+abbrev pub stepTable : List ℕ → ℕ → List Row
+stepTable bytes sample = row (not (recordValid bytes)) 28 0 ∷ row (ltb 15 sample) 20 0 ∷ []
+
+abbrev pub advanceTable : List ℕ → List Row
+advanceTable bytes = row (not (recordValid bytes)) 28 0 ∷ []
+
+abbrev pub pinsTable : List ℕ → List ℕ → List Row
+pinsTable bytes cells = row (not (recordValid bytes)) 28 0 ∷ row (ltb (length cells) 32) 25 0 ∷ []
+
 pub record Accepted : Type 0 where
   pub write : (first : ℕ) (nibbles : List ℕ) (room : ℕ)
       → AsTabled (writeTable first nibbles room) (21 + 8 * length nibbles) (writeAnswer first nibbles room)
@@ -55,3 +71,7 @@ pub record Accepted : Type 0 where
   pub commands : (codes : List ℕ) (room : ℕ) → AsTabled (commandTable codes room) (9 + 18 * length codes) (commandAnswer codes room)
   pub decode : (noted : List ℕ) (room : ℕ) → AsTabled (decodeTable noted room) (length noted / 4) (decodeAnswer noted room)
   pub powerOn : (memory : List ℕ) (room : ℕ) → AsTabled (powerOnTable memory room) 64 (powerOnAnswer memory room)
+  pub step : (bytes : List ℕ) (sample : ℕ)
+      → stepReturns bytes sample ≡ numberBy (stepTable bytes sample) (answerCode (stepped (chipOf bytes) sample .answer))
+  pub advance : (bytes : List ℕ) → advanceReturns bytes ≡ numberBy (advanceTable bytes) 0
+  pub pins : (bytes cells : List ℕ) → pinsReturns bytes cells ≡ numberBy (pinsTable bytes cells) (pinsCode (pinsShown (chipOf bytes)))

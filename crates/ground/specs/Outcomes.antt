@@ -66,6 +66,11 @@ pub record Row : Type 0 where
 abbrev pub row : Bool → ℕ → ℕ → Row
 row test number place = record { holds = test; number = number; place = place }
 
+-- Where a call returns a bare number: that of the first row whose test holds, or what stands past them all.
+abbrev pub numberBy : List Row → ℕ → ℕ
+numberBy [] success = success
+numberBy (first ∷ rows) success = cond (first .holds) (first .number) (numberBy rows success)
+
 -- No test of some rows holds.
 abbrev pub NoneHolds : List Row → Type 0
 NoneHolds [] = Unit {0}
