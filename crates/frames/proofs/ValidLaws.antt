@@ -112,7 +112,7 @@ taken-kept bit Dead line v = (v, tt)
 readOffered-kept : (nibble at position : ℕ) → at < 32 → position < 4 → Kept (readOffered nibble at position)
 unfolding readOffered
 readOffered-kept nibble at position a p = (
-  by-cases (λ (q : Phase). FrameValid false (Driven (bitAt position nibble)) q) (ltb position 3)
+  by-cases (λ (q : Phase). FrameValid false (readOffered nibble at position .line) q) (ltb position 3)
       (λ t. let h = ltb-true position 3 t in (refl, a, omega arith))
       (λ _. (refl, omega arith, omega arith)),
   tt,
