@@ -10,7 +10,7 @@ use Rattle.driver.specs.Streams.{writeStream, readStream, commandStream,
 use Rattle.driver.specs.Refusals.{answerNumber, outsideMemory, miscounted, writeAnswer, readAnswer, decodeAnswer}
 use Rattle.driver.proofs.StreamsLaws.{write-length, read-length, commands-length}
 
--- (c) N=1 takes 29 samples, N=32 takes 277
+-- (c) one nibble is 29 samples, 32 nibbles are 277
 pub write-one : (first nibble : ℕ) → length (writeStream first (nibble ∷ [])) ≡ 29
 write-one first nibble = write-length first (nibble ∷ [])
 
