@@ -125,7 +125,7 @@ offered-kept nibble (Ident count value) line v = (v, tt)
 offered-kept nibble (ReadTo count value) line v = (v, tt)
 offered-kept nibble (WriteTo count value) line v = (v, tt)
 offered-kept nibble (Reading at position) line v = readOffered-kept nibble at position (v .1) (v .2)
-offered-kept nibble (Writing count value at position) line v = ((refl, v .1, v .2, omega arith), tt)
+offered-kept nibble (Writing count value at position) line v = ((refl, v .1, omega (arith, v .2), omega arith), tt)
 offered-kept nibble (Command count value) line v = (v, tt)
 offered-kept nibble Dead line v = (v, tt)
 
