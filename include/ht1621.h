@@ -32,7 +32,7 @@ enum {
     HT1621_NIBBLE_ABOVE = 23,      /* a nibble above 15, with its place */
     HT1621_UNDEFINED_COMMAND = 24, /* with its place */
     HT1621_OUTPUT_SHORT = 25,      /* an output shorter than needed */
-    HT1621_NOTED_COUNT = 26,       /* noted bytes: 0, above 128, or not a multiple of 4 */
+    HT1621_NOTED_COUNT = 26,       /* a number of noted bytes that is none of 4, 8 .. 128 */
     HT1621_NOTED_ABOVE = 27,       /* a noted byte above 1, with its place */
     HT1621_MALFORMED = 28,         /* bytes that are no state record */
     HT1621_MEMORY_COUNT = 29       /* a power-on memory that is not 32 values */

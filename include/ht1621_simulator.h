@@ -1,9 +1,9 @@
 /* The HT1621 pack: the chip, for a simulator. C99 and C++; link libsimulator.a.
 
    A chip is a state record of 64 bytes that the caller keeps (ht1621.h lists them) and lends to each call;
-   ht1621_power_on of ht1621_host.h makes one. A slice is a pointer and then the number of bytes that the call may touch; where that
-   number is not what the call needs, it refuses. Two slices of one call do not overlap. The calls keep nothing between them, so
-   chips may be stepped by several threads, each its own.
+   ht1621_power_on of ht1621_host.h makes one. A slice is a pointer and then the number of bytes that the call may touch: 64 for a
+   record, no more and no fewer, and at least 32 for `cells`. Two slices of one call do not overlap. The calls keep nothing between
+   them, so chips may be stepped by several threads, each its own.
 
    Every call looks at the record first and refuses with HT1621_MALFORMED bytes that are no state record. A refused call
    changes no byte. */
@@ -32,7 +32,8 @@ uint32_t step(uint8_t *record, size_t record_bytes, uint8_t sample);
 uint32_t advance(uint8_t *record, size_t record_bytes, uint16_t ticks);
 
 /* Says what the pins do, and writes to the first 32 bytes of `cells` what the glass shows: bit c of byte s is the
-   cell at SEG s and COM c. HT1621_PINS_* take the result apart.
+   cell at SEG s and COM c. A longer `cells` is accepted, and no byte after the 32nd is touched. HT1621_PINS_* take the
+   result apart.
    Refused, in this order: HT1621_MALFORMED; HT1621_OUTPUT_SHORT, where `cells` is shorter than 32 bytes. */
 uint32_t pins(const uint8_t *record, size_t record_bytes, uint8_t *cells, size_t cells_bytes);
 

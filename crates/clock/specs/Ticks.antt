@@ -26,11 +26,11 @@ dividerStepped d = record { count = (d .count + 1) % 128 }
 abbrev pub baseStepped : BaseCounter → BaseCounter
 baseStepped b = record { count = (b .count + 1) % 256 }
 
--- When w returns to 0, the flag is set.
+-- A full round of w sets the flag, which then stays.
 abbrev pub watchdogStepped : Watchdog → Watchdog
 watchdogStepped w = record { count = (w .count + 1) % 4; flag = eqb ((w .count + 1) % 4) 0 || w .flag }
 
--- The rate's turn: d is a multiple of 2^(7-r).
+-- The rate's turn: 2^(7-r) divides d.
 unfoldable pub due : ℕ → ℕ → Bool
 due rate d = eqb (d % 2 ^ (7 - rate)) 0
 
@@ -61,11 +61,11 @@ countersTicked Xtal on rate c = baseTicked on rate c
 countersTicked Rc on rate c = prescaledTick on rate c
 countersTicked Ext on rate c = prescaledTick on rate c
 
--- CLR TIMER: d and b to 0.
+-- CLR TIMER clears d and b, and leaves w and the flag.
 abbrev pub timerCleared : Timer → Timer
 timerCleared t = record { divider = record { count = 0 }; base = record { count = 0 }; watchdog = t .watchdog }
 
--- CLR WDT: d, b, w and the flag to 0.
+-- CLR WDT clears w and the flag too.
 abbrev pub watchdogCleared : Timer → Timer
 watchdogCleared t =
     record { divider = record { count = 0 }; base = record { count = 0 }; watchdog = record { count = 0; flag = false } }

@@ -112,7 +112,7 @@ taken-kept bit Dead line v = (v, tt)
 readOffered-kept : (nibble at position : ℕ) → at < 32 → position < 4 → Kept (readOffered nibble at position)
 unfolding readOffered
 readOffered-kept nibble at position a p = (
-  by-cases (λ (q : Phase). FrameValid false (Driven (bitAt position nibble)) q) (ltb position 3)
+  by-cases (λ (q : Phase). FrameValid false (readOffered nibble at position .line) q) (ltb position 3)
       (λ t. let h = ltb-true position 3 t in (refl, a, omega arith))
       (λ _. (refl, omega arith, omega arith)),
   tt,
@@ -125,7 +125,7 @@ offered-kept nibble (Ident count value) line v = (v, tt)
 offered-kept nibble (ReadTo count value) line v = (v, tt)
 offered-kept nibble (WriteTo count value) line v = (v, tt)
 offered-kept nibble (Reading at position) line v = readOffered-kept nibble at position (v .1) (v .2)
-offered-kept nibble (Writing count value at position) line v = ((refl, v .1, v .2, omega arith), tt)
+offered-kept nibble (Writing count value at position) line v = ((refl, v .1, omega (arith, v .2), omega arith), tt)
 offered-kept nibble (Command count value) line v = (v, tt)
 offered-kept nibble Dead line v = (v, tt)
 

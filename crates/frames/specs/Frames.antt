@@ -29,7 +29,7 @@ more value bit = (2 * value + bitNumber bit) % 512
 abbrev pub turned : ℕ → ℕ
 turned value = value / 8 % 2 + 2 * (value / 4 % 2) + 4 * (value / 2 % 2) + 8 * (value % 2)
 
--- House rule: A5 is taken and dropped, so an address is what five bits say, and 31 is followed by 0.
+-- By the house rule A5 counts for nothing: an address is its lower five bits, and after 31 comes 0.
 abbrev pub reached : ℕ → ℕ
 reached value = value % 32
 
@@ -66,7 +66,7 @@ writeToTaken bit count value =
     cond (ltb count 5) (collected (WriteTo (count + 1) (more value bit)))
     (collected (Writing 0 0 (reached (more value bit)) 0))
 
--- Writing: the fourth bit stores the nibble, steps the address and sets the reading position to D0.
+-- Writing: with its fourth bit a nibble is stored, and the frame goes on at the next address, to be read from D0 on.
 unfoldable pub nibbleTaken : Bool → ℕ → ℕ → ℕ → ℕ → Framed
 nibbleTaken bit count value at position =
     cond (ltb count 3) (collected (Writing (count + 1) (more value bit) at position))
@@ -101,7 +101,7 @@ taken bit Dead line = stray Dead line
 abbrev pub offeredIn : Phase → ℕ → Bool → Framed
 offeredIn phase at bit = framed phase (Driven bit) (Offered at bit)
 
--- Reading: after D3 the address steps and the position returns to D0.
+-- Reading: D3 is followed by D0 of the next address.
 unfoldable pub readOffered : ℕ → ℕ → ℕ → Framed
 readOffered nibble at position =
     offeredIn (cond (ltb position 3) (Reading at (position + 1)) (Reading (next at) 0)) at (bitAt position nibble)
@@ -133,7 +133,7 @@ address (Writing count value at position) = at
 address (Command count value) = 0
 address Dead = 0
 
--- The frame ends, and its unfinished bits are dropped.
+-- The end of a frame: the answer tells whether unfinished bits are lost with it.
 unfoldable pub closed : Phase → Framed
 closed phase = framed Idle Released (cond (eqb (unfinished phase) 0) Closed Dropped)
 

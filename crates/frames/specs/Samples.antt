@@ -6,7 +6,7 @@ use Rattle.frames.specs.declared.Levels.{Levels}
 use Rattle.frames.specs.declared.Edge.{Edge}
 use Rattle.frames.specs.declared.Edge.the-variants.{Rests, Closes, Opens, Clashes, Takes, Offers, Quiet}
 
--- A sample is CS + 2 WR + 4 RD + 8 DATA, each the new level.
+-- A sample has a bit for each line's new level: CS the lowest, then WR, RD and DATA.
 abbrev pub levels : ℕ → Levels
 levels sample =
     record {
@@ -20,8 +20,7 @@ levels sample =
 abbrev pub rose : Bool → Bool → Bool
 rose before after = not before && after
 
--- Rule 4, with CS low before and after: a WR rise with an RD fall is a clash; alone, a WR rise takes the sample's DATA
--- bit and an RD fall offers one.
+-- Rule 4, within a frame: a rise of WR takes the bit on DATA, a fall of RD offers one, and the two together clash.
 abbrev pub clocked : Bool → Bool → Bool → Edge
 clocked rise fall bit = cond rise (cond fall Clashes (Takes bit)) (cond fall Offers Quiet)
 

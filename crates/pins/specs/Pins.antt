@@ -18,7 +18,7 @@ asserted Neither t = false
 asserted TimeBase t = leb 128 (t .base .count)
 asserted Flag t = t .watchdog .flag
 
--- IRQ is low if its output is on and its source asks for it; otherwise it floats.
+-- IRQ is low while its output is switched on and its source asks for it; otherwise it floats.
 unfoldable pub irqLow : Settings → Bool
 irqLow s = s .irq .on && asserted (s .irq .source) (s .counters .timer)
 

@@ -47,8 +47,8 @@ fn show(bytes: &[u8], mask: u8, out: &mut [u8])
     }
 }
 
-// A sample: returns its answer + 256 x first detail + 65,536 x second. Only an obeyed command, answer 6, changes the
-// settings; after any other sample the port alone is written back.
+// A sample: returns its answer in the lowest byte, the first detail in the next and the second in the third. Only an
+// obeyed command, answer 6, changes the settings; after any other sample the port alone is written back.
 #[no_mangle]
 pub extern "C" fn step(bytes: &mut [u8], sample: u8) -> u32
     ensures { λ r. ⌜ (r ≡ stepReturns (now (bytes .entry)) sample)

@@ -1,5 +1,5 @@
--- The record's round trip: a valid record read and written again is the same bytes, and says a valid chip; a valid chip
--- written is a valid record, and read again the same chip. Assumes nothing.
+-- The record's round trip: a valid record says a valid chip, from which its bytes come back; a valid chip written is a
+-- valid record, and read again the same chip. Assumes nothing.
 use mathlib.Core.Path.{_≡_, _∙_, refl, sym, ap}
 use mathlib.Core.Bool.{Bool, true, false, _&&_}
 use mathlib.Core.List.{List, [], _∷_, _++_, append-assoc}
@@ -108,6 +108,6 @@ module _ (b : List ℕ) (has : RecordHas b) where
       ap (λ (l : List ℕ). gather 26 32 b ++ l) (sym last) ∙ sym (gathered 26 32 b (omega (arith, has .long))) in
       ap (λ (l : List ℕ). take 32 b ++ l) (tail-same ∙ rest) ∙ take-append-drop 32 b
 
--- A valid record read and written again is the same bytes.
+-- Writing what was read from a valid record gives its bytes.
 pub trip : (b : List ℕ) → recordValid b ≡ true → recordOf (chipOf b) ≡ b
 trip b v = record-same b (valid-has b v)

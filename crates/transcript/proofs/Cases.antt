@@ -1,4 +1,4 @@
--- 01 "The listing": its two inputs, an empty one and one that stops, computed from the definition. Assumes nothing.
+-- 01 "The listing": its two inputs, an empty one, a tick and one that stops, computed from the definition. Assumes nothing.
 use mathlib.Core.Path.{_≡_, refl}
 use mathlib.Core.List.{List, [], _∷_}
 use Prim.Native.Nat.{ℕ}
@@ -19,7 +19,7 @@ writes-5-listed =
     50 ∷ 32 ∷ 49 ∷ 32 ∷ 48 ∷ 32 ∷ 48 ∷ 10 ∷ 50 ∷ 56 ∷ 32 ∷ 53 ∷ 32 ∷ 51 ∷ 32 ∷ 53 ∷ 10 ∷ 50 ∷ 57 ∷ 32 ∷ 50 ∷ 32 ∷
     48 ∷ 32 ∷ 48 ∷ 10 ∷ 101 ∷ 110 ∷ 100 ∷ 32 ∷ 50 ∷ 57 ∷ 32 ∷ 48 ∷ 10 ∷ []
 
--- `fece46ce46464646cececece46ce46f` has bits too many: a nibble is stored at address 3, and the frame closes with 3
+-- `fece46ce46464646cececece46ce46f`, one bit more: 11 is stored at address 3, and one bit is dropped with answer 3
 abbrev too-many-bits : List ℕ
 too-many-bits =
     102 ∷ 101 ∷ 99 ∷ 101 ∷ 52 ∷ 54 ∷ 99 ∷ 101 ∷ 52 ∷ 54 ∷ 52 ∷ 54 ∷ 52 ∷ 54 ∷ 52 ∷ 54 ∷ 99 ∷ 101 ∷ 99 ∷ 101 ∷ 99 ∷
@@ -30,11 +30,12 @@ too-many-bits-listed =
     50 ∷ 32 ∷ 49 ∷ 32 ∷ 48 ∷ 32 ∷ 48 ∷ 10 ∷ 50 ∷ 56 ∷ 32 ∷ 53 ∷ 32 ∷ 51 ∷ 32 ∷ 49 ∷ 49 ∷ 10 ∷ 51 ∷ 49 ∷ 32 ∷ 51 ∷
     32 ∷ 48 ∷ 32 ∷ 48 ∷ 10 ∷ 101 ∷ 110 ∷ 100 ∷ 32 ∷ 51 ∷ 49 ∷ 32 ∷ 48 ∷ 10 ∷ []
 
--- nothing at all is `end 0 0`, and `t t`, a tab and `t` is `bad 3`
+-- nothing at all is `end 0 0`, `t` is `end 0 1`, and `t t`, a tab and `t` is `bad 3`
 pub listings-computed :
     (listing writes-5 ≡ writes-5-listed)
     × (listing too-many-bits ≡ too-many-bits-listed)
     × (listing [] ≡ 101 ∷ 110 ∷ 100 ∷ 32 ∷ 48 ∷ 32 ∷ 48 ∷ 10 ∷ [])
+    × (listing (116 ∷ []) ≡ 101 ∷ 110 ∷ 100 ∷ 32 ∷ 48 ∷ 32 ∷ 49 ∷ 10 ∷ [])
     × (listing (116 ∷ 32 ∷ 116 ∷ 9 ∷ 116 ∷ []) ≡ 98 ∷ 97 ∷ 100 ∷ 32 ∷ 51 ∷ 10 ∷ [])
 unfolding emptyChip classOf digits decimal field line answerLine badLine endLine listFrom listing stepped moved framedBy memoryAfter settingsAfter frame taken closed identified identTaken writeToTaken nibbleTaken
-listings-computed = (refl, refl, refl, refl)
+listings-computed = (refl, refl, refl, refl, refl)
