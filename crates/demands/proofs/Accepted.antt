@@ -1,10 +1,8 @@
 -- Each call answers by a ladder, and its ladder is the table: row by row, once the stream's length is known. Assumes nothing.
-use mathlib.Core.Path.{_≡_, refl, sym, ap, subst}
-use mathlib.Core.Bool.{Bool, true, false, cond, not}
+use mathlib.Core.Path.{_≡_, refl, subst}
 use mathlib.Core.List.{List, map}
 use Prim.Native.Nat.{ℕ, _+_, _*_, _/_}
 use lib.ListN.{length}
-use Rattle.ground.specs.declared.Outcome.{Outcome}
 use Rattle.ground.specs.declared.Outcome.the-variants.{Written, Refused}
 use Rattle.ground.specs.Outcomes.{Rung, ladder, Row, AsTabled}
 use Rattle.ground.proofs.OutcomesLaws.{rowOf, ladder-tabled}
@@ -13,7 +11,6 @@ use Rattle.driver.specs.Refusals.{writeRefusals, readRefusals, commandRefusals,
 use Rattle.driver.specs.Refusals.{writeAnswer, readAnswer, commandAnswer, decodeAnswer}
 use Rattle.driver.specs.Streams.{writeStream, readStream, commandStream, decoded}
 use Rattle.driver.proofs.StreamsLaws.{write-length, read-length, commands-length, decoded-length}
-use Rattle.state.specs.Record.{recordValid}
 use Rattle.simulator.specs.Simulator.{stepReturns, advanceReturns, pinsReturns}
 use Rattle.host.specs.Host.{recordRefusals, powerOnAnswer}
 use Rattle.demands.specs.Accepted.{writeTable, readTable, commandTable, decodeTable, powerOnTable, Accepted}
@@ -24,11 +21,6 @@ tabled : (rungs : List Rung) (size : ℕ) (table : List Row) (bytes : ℕ) → m
 tabled rungs size table bytes rows same =
     subst (λ t. AsTabled t bytes (ladder Refused rungs (Written size))) rows
     (subst (λ n. AsTabled (map rowOf rungs) n (ladder Refused rungs (Written size))) same (ladder-tabled rungs size))
-
--- a choice by what is refused, or by what is not
-turned : (test : Bool) (x y : ℕ) → cond test x y ≡ cond (not test) y x
-turned true x y = refl
-turned false x y = refl
 
 pub accepted : Accepted
 unfolding stepReturns advanceReturns pinsReturns writeAnswer readAnswer commandAnswer decodeAnswer powerOnAnswer outsideMemory tooMany miscounted
@@ -47,7 +39,7 @@ accepted =
           tabled (decodeRefusals noted room) (length (decoded noted)) (decodeTable noted room) (length noted / 4)
           (rw (decoded-length noted) refl) (decoded-length noted);
       powerOn = λ memory room. tabled (recordRefusals memory room) 64 (powerOnTable memory room) 64 refl refl;
-      step = λ bytes sample. turned (recordValid bytes) _ _;
-      advance = λ bytes. turned (recordValid bytes) _ _;
-      pins = λ bytes cells. turned (recordValid bytes) _ _;
+      step = λ bytes sample. refl;
+      advance = λ bytes. refl;
+      pins = λ bytes cells. refl;
     }

@@ -21,8 +21,7 @@ use Rattle.driver.specs.Refusals.{outsideMemory, nibbleFault, commandFault, wri
 use Rattle.driver.specs.Streams.{writeStream, readStream, commandStream}
 use Rattle.driver.proofs.RefusalsLaws.{inside}
 use Rattle.driver.proofs.StreamsLaws.{write-length}
-use Rattle.demands.specs.Demand2.{AcceptsRead, AcceptsCommands}
-use Rattle.demands.specs.Demand3.{Accepts}
+use Rattle.demands.specs.Accepted.{AcceptsWrite, AcceptsRead, AcceptsCommands}
 use Rattle.demands.proofs.Accepted.{accepted}
 use Rattle.demands.proofs.CommandLaws.{Defined}
 
@@ -54,7 +53,7 @@ pub record Fit (first : ℕ) (ns : List ℕ) : Type 0 where
   pub inside : first + length ns ≤ 32
   pub nibbles : Nibbles ns
 
-pub accepted-write : (first : ℕ) (ns : List ℕ) → Accepts first ns → Fit first ns
+pub accepted-write : (first : ℕ) (ns : List ℕ) → AcceptsWrite first ns → Fit first ns
 unfolding outsideMemory
 accepted-write first ns e =
     let none = accepted .write first ns (length (writeStream first ns)) .acceptedOnly _ e in
@@ -77,7 +76,7 @@ written-fits first ns room count e =
     counted same = cc
 
 -- and what is accepted in some room is accepted in just enough
-pub accepted-enough : (first : ℕ) (ns : List ℕ) (room count : ℕ) → writeAnswer first ns room ≡ Written count → Accepts first ns
+pub accepted-enough : (first : ℕ) (ns : List ℕ) (room count : ℕ) → writeAnswer first ns room ≡ Written count → AcceptsWrite first ns
 accepted-enough first ns room count e =
     let none = accepted .write first ns room .acceptedOnly count e in
     let long = write-length first ns in

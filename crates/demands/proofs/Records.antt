@@ -11,9 +11,10 @@ use Rattle.chip.specs.Valid.{Valid}
 use Rattle.state.specs.Record.{recordOf, recordValid, chipOf}
 use Rattle.state.proofs.ChipLaws.{valid-chip, chip-valid}
 use Rattle.driver.specs.Streams.{writeStream, readStream, commandStream}
+use Rattle.demands.specs.Accepted.{AcceptsWrite, AcceptsRead, AcceptsCommands}
 use Rattle.demands.specs.Events.{after, notes, ReadsAs}
-use Rattle.demands.specs.Demand2.{dueCommands, between, AcceptsRead, AcceptsCommands, Writes, Reads, Commands}
-use Rattle.demands.specs.Demand3.{Accepts, completed, Survives}
+use Rattle.demands.specs.Demand2.{dueCommands, between, Writes, Reads, Commands}
+use Rattle.demands.specs.Demand3.{completed, Survives}
 use Rattle.demands.specs.Calls.{Call, afterCalls, eventsOf, sent, passed, noted, CallsKeepValid}
 use Rattle.demands.specs.Records.{readReturns, CallsWrite, CallsRead, CallsCommand, Demand2OfRecords, Demand3OfRecords}
 use Rattle.demands.proofs.AcceptedLaws.{accepted-write, accepted-read, accepted-commands}
@@ -36,13 +37,13 @@ calls-keep-valid b calls valid =
 
 -- ---- demand 2
 
-writes : (b : List ℕ) (first : ℕ) (ns : List ℕ) (calls : List Call) → recordValid b ≡ true → Accepts first ns
+writes : (b : List ℕ) (first : ℕ) (ns : List ℕ) (calls : List Call) → recordValid b ≡ true → AcceptsWrite first ns
     → sent calls ≡ writeStream first ns → CallsWrite b first ns calls
 writes b first ns calls valid accepts e =
     let done : Writes (chipOf b) first ns (eventsOf calls) = demand2 .writes (chipOf b) first ns (eventsOf calls) (valid-chip b valid) accepts e in
     let small = subst Sixteen (sym e) (write-sixteen first ns) in
     record {
-      memory =
+      port =
           port-left b valid calls small _ _ (ap (map levels) e ∙ write-levels first ns) (λ p. nibbles-idle ns _)
           (done .memory ∙ ap (λ (m : List ℕ). paste m first ns (length ns)) (memory-said b valid));
       settings = ticks-left b valid calls (done .settings);
@@ -60,7 +61,7 @@ reads b first count calls valid accepts e =
     let said = memory-said b valid in
     let part = take count (drop first (chipOf b .port .memory)) in
     record {
-      memory =
+      port =
           port-left b valid calls small _ _ (ap (map levels) e ∙ read-levels first count) (λ p. reads-idle count _) (done .memory ∙ said);
       settings = ticks-left b valid calls (done .settings);
       returned =
@@ -78,7 +79,7 @@ commands b codes calls valid accepts e =
     let done : Commands (chipOf b) codes (eventsOf calls) = demand2 .commands (chipOf b) codes (eventsOf calls) (valid-chip b valid) accepts e in
     let small = subst Sixteen (sym e) (command-sixteen codes) in
     record {
-      memory =
+      port =
           port-left b valid calls small _ _ (ap (map levels) e ∙ command-levels codes) (λ p. commands-idle codes _)
           (done .memory ∙ memory-said b valid);
       settings =

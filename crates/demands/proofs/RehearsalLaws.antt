@@ -21,8 +21,9 @@ use Rattle.ground.specs.declared.Outcome.the-variants.{Written, Refused}
 use Rattle.ground.specs.Outcomes.{left, ComesTo}
 use Rattle.driver.specs.Refusals.{writeAnswer}
 use Rattle.driver.specs.Streams.{writeStream}
+use Rattle.demands.specs.Accepted.{AcceptsWrite}
 use Rattle.demands.specs.Events.{after, samples, ticks}
-use Rattle.demands.specs.Demand3.{Accepts, Survives}
+use Rattle.demands.specs.Demand3.{Survives}
 use Rattle.demands.specs.Rehearsal.{paced, stopped, Rehearses, Demand3OfRehearsals}
 use Rattle.demands.proofs.AcceptedLaws.{written-fits, accepted-enough, buffer-holds}
 use Rattle.demands.proofs.Demand3.{demand3}

@@ -6,6 +6,7 @@ use mathlib.Core.List.{List, [], _∷_}
 use Prim.Native.Nat.{ℕ, _+_, _*_, _/_, _%_}
 use lib.Dec.{eqb, ltb}
 use lib.ListN.{length}
+use Rattle.ground.specs.declared.Outcome.the-variants.{Written}
 use Rattle.ground.specs.Outcomes.{Row, row, numberBy, AsTabled}
 use Rattle.ground.specs.Places.{lowest, somewhere}
 use Rattle.commands.specs.Commands.{commandFault}
@@ -14,6 +15,7 @@ use Rattle.chip.specs.Pins.{pinsShown}
 use Rattle.place.specs.Place.{answerCode}
 use Rattle.state.specs.Record.{recordValid, chipOf}
 use Rattle.simulator.specs.Simulator.{pinsCode, stepReturns, advanceReturns, pinsReturns}
+use Rattle.driver.specs.Streams.{writeStream, readStream, commandStream}
 use Rattle.driver.specs.Refusals.{writeAnswer, readAnswer, commandAnswer, decodeAnswer}
 use Rattle.host.specs.Host.{powerOnAnswer}
 
@@ -54,7 +56,7 @@ powerOnTable memory room =
     ∷ row (somewhere (ltb 15) memory) 23 (lowest (ltb 15) memory)
     ∷ row (ltb room 64) 25 0 ∷ []
 
--- A sample, ticks and the pins of a record.
+-- 01 "State record and simulator": a sample, ticks and the pins of a record.
 abbrev pub stepTable : List ℕ → ℕ → List Row
 stepTable bytes sample = row (not (recordValid bytes)) 28 0 ∷ row (ltb 15 sample) 20 0 ∷ []
 
@@ -75,3 +77,14 @@ pub record Accepted : Type 0 where
       → stepReturns bytes sample ≡ numberBy (stepTable bytes sample) (answerCode (stepped (chipOf bytes) sample .answer))
   pub advance : (bytes : List ℕ) → advanceReturns bytes ≡ numberBy (advanceTable bytes) 0
   pub pins : (bytes cells : List ℕ) → pinsReturns bytes cells ≡ numberBy (pinsTable bytes cells) (pinsCode (pinsShown (chipOf bytes)))
+
+-- A write, a read and commands that the driver accepts: given just room enough, it writes the stream.
+abbrev pub AcceptsWrite : ℕ → List ℕ → Type 0
+AcceptsWrite first nibbles =
+    writeAnswer first nibbles (length (writeStream first nibbles)) ≡ Written (length (writeStream first nibbles))
+
+abbrev pub AcceptsRead : ℕ → ℕ → Type 0
+AcceptsRead first count = readAnswer first count (length (readStream first count)) ≡ Written (length (readStream first count))
+
+abbrev pub AcceptsCommands : List ℕ → Type 0
+AcceptsCommands codes = commandAnswer codes (length (commandStream codes)) ≡ Written (length (commandStream codes))

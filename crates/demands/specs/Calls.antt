@@ -6,7 +6,7 @@ use mathlib.Core.List.{List, [], _∷_, _++_}
 use Prim.Native.Nat.{ℕ, zero, suc}
 use lib.Dec.{eqb}
 use lib.ListN.{replicate}
-use Rattle.frames.specs.Samples.{levels}
+use Rattle.ground.specs.Bits.{bitAt}
 use Rattle.state.specs.Record.{byte, recordValid}
 use Rattle.simulator.specs.Simulator.{stepReturns, stepBytes, advanceBytes}
 use Rattle.demands.specs.Events.{Event, sample, tick, samples, ticks}
@@ -54,7 +54,7 @@ abbrev pub noted : List ℕ → List Call → List ℕ
 noted bytes [] = []
 noted bytes (step s ∷ calls) =
     let next = called bytes (step s) in
-    cond (not (levels (byte bytes 32) .rd) && eqb s 14) (dataNoted (byte next 39) ∷ noted next calls) (noted next calls)
+    cond (not (bitAt 2 (byte bytes 32)) && eqb s 14) (dataNoted (byte next 39) ∷ noted next calls) (noted next calls)
 noted bytes (advance n ∷ calls) = noted (called bytes (advance n)) calls
 
 -- A valid record stays valid, whatever is called.

@@ -4,7 +4,7 @@
 use mathlib.Core.Path.{_≡_}
 use mathlib.Core.Bool.{cond}
 use mathlib.Core.List.{List, [], _∷_}
-use Prim.Native.Nat.{ℕ, zero, suc, _+_, _*_}
+use Prim.Native.Nat.{ℕ, suc, _+_, _*_}
 use lib.Dec.{eqb}
 use lib.ListN.{length, take, drop}
 use lib.Seq.{paste}
@@ -19,19 +19,16 @@ use Rattle.frames.specs.Answers.{act}
 use Rattle.chip.specs.declared.Chip.{Chip}
 use Rattle.chip.specs.Chip.{obeyedAs}
 use Rattle.chip.specs.Valid.{Valid}
-use Rattle.ground.specs.declared.Outcome.the-variants.{Written}
-use Rattle.driver.specs.Refusals.{writeAnswer, readAnswer, commandAnswer}
 use Rattle.driver.specs.Streams.{writeStream, readStream, commandStream}
 use Rattle.demands.specs.Events.{Event, sample, tick, after, samples, ticks, answers, notes, ReadsAs}
-use Rattle.demands.specs.Accepted.{Accepted}
-use Rattle.demands.specs.Demand3.{Accepts}
+use Rattle.demands.specs.Accepted.{Accepted, AcceptsWrite, AcceptsRead, AcceptsCommands}
 
 -- The last answer of some, the first where there are none.
 abbrev pub lastAnswer : Answer → List Answer → Answer
 lastAnswer answer [] = answer
 lastAnswer answer (next ∷ answers) = lastAnswer next answers
 
--- ---- a write
+-- ---- 01 "Driver streams": a write
 
 -- The stores among answers that are numbered from n on: at which sample, where, and what.
 pub record StoredAt : Type 0 where
@@ -111,15 +108,9 @@ pub record Commands (chip : Chip) (codes : List ℕ) (events : List Event) : Typ
 
 -- ---- the demand
 
-abbrev pub AcceptsRead : ℕ → ℕ → Type 0
-AcceptsRead first count = readAnswer first count (length (readStream first count)) ≡ Written (length (readStream first count))
-
-abbrev pub AcceptsCommands : List ℕ → Type 0
-AcceptsCommands codes = commandAnswer codes (length (commandStream codes)) ≡ Written (length (commandStream codes))
-
 pub record Demand2 : Type 0 where
   pub accepted : Accepted
-  pub writes : (chip : Chip) (first : ℕ) (nibbles : List ℕ) (events : List Event) → Valid chip → Accepts first nibbles
+  pub writes : (chip : Chip) (first : ℕ) (nibbles : List ℕ) (events : List Event) → Valid chip → AcceptsWrite first nibbles
       → samples events ≡ writeStream first nibbles → Writes chip first nibbles events
   pub reads : (chip : Chip) (first count : ℕ) (events : List Event) → Valid chip → AcceptsRead first count
       → samples events ≡ readStream first count → Reads chip first count events

@@ -12,15 +12,9 @@ use lib.Seq.{paste}
 use Rattle.rules.specs.Ticks.{advanced}
 use Rattle.chip.specs.declared.Chip.{Chip}
 use Rattle.chip.specs.Valid.{Valid}
-use Rattle.ground.specs.declared.Outcome.the-variants.{Written}
-use Rattle.driver.specs.Refusals.{writeAnswer}
 use Rattle.driver.specs.Streams.{writeStream, readStream}
+use Rattle.demands.specs.Accepted.{AcceptsWrite}
 use Rattle.demands.specs.Events.{Event, after, samples, ticks, notes, ReadsAs}
-
--- The driver accepts the write: given room for it, it writes the stream.
-abbrev pub Accepts : ℕ → List ℕ → Type 0
-Accepts first nibbles =
-    writeAnswer first nibbles (length (writeStream first nibbles)) ≡ Written (length (writeStream first nibbles))
 
 -- The sample that completes nibble i, from 1; and how many of n nibbles are complete after k samples.
 abbrev pub completing : ℕ → ℕ
@@ -43,5 +37,5 @@ pub record Survives (chip : Chip) (first : ℕ) (nibbles : List ℕ) (k passed :
 abbrev pub Demand3 : Type 0
 Demand3 =
     (chip : Chip) (first : ℕ) (nibbles : List ℕ) (k : ℕ) (events : List Event)
-    → Valid chip → Accepts first nibbles → samples events ≡ take k (writeStream first nibbles)
+    → Valid chip → AcceptsWrite first nibbles → samples events ≡ take k (writeStream first nibbles)
     → Survives chip first nibbles k (ticks events) (after chip events)

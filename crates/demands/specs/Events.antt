@@ -1,4 +1,5 @@
--- What happens to a chip: samples, with ticks of its clock between them. Assumes nothing.
+-- What happens to a chip (01 "Samples" and "Ticks"): samples, with ticks of its clock between them; and what a host notes of it.
+-- Assumes nothing.
 use mathlib.Core.Path.{_≡_}
 use Prim.Native.Nat.{ℕ, suc, _≤_}
 use mathlib.Core.Bool.{cond, not, _&&_}

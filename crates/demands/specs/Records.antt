@@ -2,18 +2,18 @@
 use mathlib.Core.Path.{_≡_}
 use mathlib.Core.Bool.{Bool, true, cond}
 use mathlib.Core.List.{List, [], _∷_, _++_}
-use Prim.Native.Nat.{ℕ, zero, suc, _+_, _*_}
+use Prim.Native.Nat.{ℕ, zero, suc, _+_, _*_, _%_}
 use lib.Dec.{eqb}
 use lib.ListN.{length, take, drop, replicate}
 use lib.Seq.{paste}
 use Rattle.ground.specs.Bits.{bitAt, bitNumber}
-use Rattle.frames.specs.Samples.{levels}
 use Rattle.state.specs.Record.{byte, settingsBytes, settingsOf, recordValid}
 use Rattle.simulator.specs.Simulator.{advanceBytes}
 use Rattle.driver.specs.Streams.{writeStream, readStream, commandStream}
 use Rattle.demands.specs.Events.{ReadsAs}
-use Rattle.demands.specs.Demand2.{dueCommands, between, AcceptsRead, AcceptsCommands}
-use Rattle.demands.specs.Demand3.{Accepts, completed}
+use Rattle.demands.specs.Accepted.{AcceptsWrite, AcceptsRead, AcceptsCommands}
+use Rattle.demands.specs.Demand2.{dueCommands, between}
+use Rattle.demands.specs.Demand3.{completed}
 use Rattle.demands.specs.Calls.{Call, afterCalls, eventsOf, sent, passed, returns, noted}
 
 -- ---- 01 "What a sample is answered", for the samples of each stream, as the numbers that `step` returns
@@ -21,7 +21,7 @@ use Rattle.demands.specs.Calls.{Call, afterCalls, eventsOf, sent, passed
 -- The first closes what stood open: nothing where CS was high (byte 32), otherwise a frame with unfinished bits or without
 -- (byte 34). The second opens a frame.
 abbrev pub openingReturns : List ℕ → List ℕ
-openingReturns bytes = cond (levels (byte bytes 32) .cs) 0 (cond (eqb (byte bytes 34) 0) 2 3) ∷ 1 ∷ []
+openingReturns bytes = cond (eqb (byte bytes 32 % 2) 1) 0 (cond (eqb (byte bytes 34) 0) 2 3) ∷ 1 ∷ []
 
 -- Some sent bits that complete nothing: each is taken at the second of its samples.
 abbrev pub bitReturns : ℕ → List ℕ
@@ -56,26 +56,26 @@ noFrame = 15 ∷ replicate 7 0
 
 -- A write leaves the asked nibbles and no frame, and in bytes 40 to 63 what one `advance` by all the ticks leaves there.
 pub record CallsWrite (bytes : List ℕ) (first : ℕ) (nibbles : List ℕ) (calls : List Call) : Type 0 where
-  pub memory : take 40 (afterCalls bytes calls) ≡ paste (take 32 bytes) first nibbles (length nibbles) ++ noFrame
+  pub port : take 40 (afterCalls bytes calls) ≡ paste (take 32 bytes) first nibbles (length nibbles) ++ noFrame
   pub settings : drop 40 (afterCalls bytes calls) ≡ drop 40 (advanceBytes bytes (passed calls))
   pub returned : returns bytes calls ≡ openingReturns bytes ++ bitReturns 9 ++ nibbleReturns first nibbles
 
 -- A read leaves the memory, and what is noted reads back as the bytes asked for.
 pub record CallsRead (bytes : List ℕ) (first count : ℕ) (calls : List Call) : Type 0 where
-  pub memory : take 40 (afterCalls bytes calls) ≡ take 32 bytes ++ noFrame
+  pub port : take 40 (afterCalls bytes calls) ≡ take 32 bytes ++ noFrame
   pub settings : drop 40 (afterCalls bytes calls) ≡ drop 40 (advanceBytes bytes (passed calls))
   pub returned : returns bytes calls ≡ openingReturns bytes ++ bitReturns 9 ++ readReturns first (take count (drop first (take 32 bytes)))
   pub readBack : ReadsAs (noted bytes calls) (take count (drop first (take 32 bytes)))
 
 -- Commands leave the memory, and bytes 40 to 63 as their effects, each at its sample, and the ticks between them make them.
 pub record CallsCommand (bytes codes : List ℕ) (calls : List Call) : Type 0 where
-  pub memory : take 40 (afterCalls bytes calls) ≡ take 32 bytes ++ noFrame
+  pub port : take 40 (afterCalls bytes calls) ≡ take 32 bytes ++ noFrame
   pub settings : drop 40 (afterCalls bytes calls)
       ≡ settingsBytes (between (dueCommands 26 codes) 0 (eventsOf calls) (settingsOf bytes)) ++ replicate 6 0
   pub returned : returns bytes calls ≡ openingReturns bytes ++ bitReturns 3 ++ commandReturns codes
 
 pub record Demand2OfRecords : Type 0 where
-  pub writes : (bytes : List ℕ) (first : ℕ) (nibbles : List ℕ) (calls : List Call) → recordValid bytes ≡ true → Accepts first nibbles
+  pub writes : (bytes : List ℕ) (first : ℕ) (nibbles : List ℕ) (calls : List Call) → recordValid bytes ≡ true → AcceptsWrite first nibbles
       → sent calls ≡ writeStream first nibbles → CallsWrite bytes first nibbles calls
   pub reads : (bytes : List ℕ) (first count : ℕ) (calls : List Call) → recordValid bytes ≡ true → AcceptsRead first count
       → sent calls ≡ readStream first count → CallsRead bytes first count calls
@@ -96,5 +96,5 @@ pub record CallsSurvive (bytes : List ℕ) (first : ℕ) (nibbles : List ℕ) (k
 abbrev pub Demand3OfRecords : Type 0
 Demand3OfRecords =
     (bytes : List ℕ) (first : ℕ) (nibbles : List ℕ) (k : ℕ) (calls : List Call)
-    → recordValid bytes ≡ true → Accepts first nibbles → sent calls ≡ take k (writeStream first nibbles)
+    → recordValid bytes ≡ true → AcceptsWrite first nibbles → sent calls ≡ take k (writeStream first nibbles)
     → CallsSurvive bytes first nibbles k calls

@@ -11,7 +11,8 @@ use Rattle.ground.specs.declared.Outcome.the-variants.{Written, Refused}
 use Rattle.ground.specs.Refusals.{refusalNumber, refusalPlace}
 use Rattle.ground.specs.Written.{over}
 
--- The number that a call returns, a success that of the bytes written; and the place, which only a refusal can have.
+-- The paper's number of an outcome: a success has that of the bytes written, a refusal its own; the place, which only a refusal
+-- can have; and which of the two it is.
 abbrev pub outcomeNumber : Outcome → ℕ
 outcomeNumber (Written count) = count
 outcomeNumber (Refused why) = refusalNumber why
@@ -19,6 +20,10 @@ outcomeNumber (Refused why) = refusalNumber why
 abbrev pub outcomePlace : Outcome → ℕ
 outcomePlace (Written count) = 0
 outcomePlace (Refused why) = refusalPlace why
+
+abbrev pub succeeded : Outcome → Bool
+succeeded (Written count) = true
+succeeded (Refused why) = false
 
 -- ---- the bytes left
 

@@ -15,7 +15,7 @@ use Rattle.ground.specs.Places.{lowest}
 use Rattle.ground.specs.Refusals.{refusalNumber, refusalPlace}
 use Rattle.ground.specs.declared.Outcome.{Outcome}
 use Rattle.ground.specs.declared.Outcome.the-variants.{Written, Refused}
-use Rattle.ground.specs.Outcomes.{Rung, ladder}
+use Rattle.ground.specs.Outcomes.{succeeded, Rung, ladder}
 use Rattle.driver.specs.Refusals.{tooMany, miscounted, nibbleFault, notedFault, commandFault}
 use Rattle.driver.specs.Refusals.{writeRefusals, readRefusals, commandRefusals, decodeRefusals, writeAnswer, readAnswer, commandAnswer, decodeAnswer}
 use Rattle.driver.specs.Streams.{writeStream, readStream, commandStream, decoded}
@@ -35,18 +35,14 @@ number-small (NotedAbove place) = omega arith
 number-small Malformed = omega arith
 number-small MemoryCount = omega arith
 
--- A success counts few bytes, a refusal has a low place; and which of the two an answer is.
+-- A success counts few bytes, a refusal has a low place.
 abbrev pub Small : Outcome → Type 0
 Small (Written count) = count ≤ 585
 Small (Refused why) = refusalPlace why ≤ 128
 
-abbrev pub succeeded : Outcome → Bool
-succeeded (Written count) = true
-succeeded (Refused why) = false
-
 -- 32 bits hold the code of a refusal, and of every answer
 pub refused-held : (why : Refusal) → refusalPlace why ≤ 128 → refusedCode why < 4294967296
-unfolding refusedCode
+unfolding hostCode
 refused-held why h = omega (arith, number-small why)
 
 pub answer-held : (answer : Outcome) → Small answer → hostCode answer < 4294967296
@@ -56,14 +52,14 @@ answer-held (Refused why) h = refused-held why h
 
 -- a code from 2^31 on is a refusal, and every other a success
 pub code-tells : (answer : Outcome) → Small answer → ltb (hostCode answer) 2147483648 ≡ succeeded answer
-unfolding hostCode refusedCode
+unfolding hostCode
 code-tells (Written count) h = lt-ltb count 2147483648 (omega arith)
 code-tells (Refused why) h = le-ltb (refusedCode why) 2147483648 (omega arith)
 
 -- and a refusal's number and place can be read off it
 pub code-parts : (why : Refusal)
     → (refusedCode why % 256 ≡ refusalNumber why) × ((refusedCode why - 2147483648) / 256 ≡ refusalPlace why)
-unfolding refusedCode
+unfolding hostCode
 code-parts why = (omega (arith, number-small why), omega (arith, number-small why))
 
 -- ---- the answers of the driver are small

@@ -1,28 +1,28 @@
 -- 01 "Driver streams" and the power-on of 01 "Commands", as calls for C: what each exported call returns, and the bytes that
 -- it leaves, for every list of bytes. Assumes nothing.
 use Prim.Native.Nat.{ℕ, _+_, _*_}
+use mathlib.Core.Bool.{cond}
 use mathlib.Core.List.{List, [], _∷_, _++_}
 use lib.Dec.{ltb}
 use lib.ListN.{length}
 use Rattle.ground.specs.declared.Refusal.{Refusal}
 use Rattle.ground.specs.declared.Refusal.the-variants.{OutputShort}
-use Rattle.ground.specs.Refusals.{refusalNumber, refusalPlace}
 use Rattle.ground.specs.declared.Outcome.{Outcome}
 use Rattle.ground.specs.declared.Outcome.the-variants.{Written, Refused}
-use Rattle.ground.specs.Outcomes.{left, Rung, refusedIf, ladder}
+use Rattle.ground.specs.Outcomes.{outcomeNumber, outcomePlace, succeeded, left, Rung, refusedIf, ladder}
 use Rattle.chip.specs.PowerOn.{powerOnRefusals, poweredOn}
 use Rattle.driver.specs.Streams.{writeStream, readStream, commandStream, decoded}
 use Rattle.driver.specs.Refusals.{writeAnswer, readAnswer, commandAnswer, decodeAnswer}
 use Rattle.state.specs.Record.{recordOf}
 
--- A refusal as one number: 2^31, which no count of bytes reaches; the place above the lowest byte; and there the number.
-unfoldable pub refusedCode : Refusal → ℕ
-refusedCode why = 2147483648 + 256 * refusalPlace why + refusalNumber why
-
--- An answer as one number: a success is the number of bytes written.
+-- An outcome as one number: a success by its own; a refusal as 2^31, which no count of bytes reaches, with the place above the
+-- lowest byte, and there the number.
 unfoldable pub hostCode : Outcome → ℕ
-hostCode (Written count) = count
-hostCode (Refused why) = refusedCode why
+hostCode outcome =
+    cond (succeeded outcome) (outcomeNumber outcome) (2147483648 + 256 * outcomePlace outcome + outcomeNumber outcome)
+
+abbrev pub refusedCode : Refusal → ℕ
+refusedCode why = hostCode (Refused why)
 
 -- Power-on: the record of the chip handed out. It is refused as the chip refuses it, 29 and then 23 with its place; and 25 last of
 -- all, where the 64 bytes of a record do not fit.
