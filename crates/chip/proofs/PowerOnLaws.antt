@@ -10,17 +10,22 @@ use Rattle.ground.specs.declared.Refusal.the-variants.{NibbleAbove, MemoryCount
 use Rattle.ground.specs.Places.{lowest, somewhere}
 use Rattle.chip.specs.declared.PoweredOn.{PoweredOn}
 use Rattle.chip.specs.declared.Start.the-variants.{On}
-use Rattle.chip.specs.PowerOn.{startNumber, freshChip, notStarted, poweredOn}
+use Rattle.chip.specs.PowerOn.{startNumber, startPlace, freshChip, notStarted, poweredOn}
 
-pub start-number : (memory : List ℕ)
-    → startNumber (poweredOn memory .answer) ≡ cond (eqb (length memory) 32) (cond (somewhere (ltb 15) memory) 23 0) 29
+pub start-told : (memory : List ℕ)
+    → (startNumber (poweredOn memory .answer) ≡ cond (eqb (length memory) 32) (cond (somewhere (ltb 15) memory) 23 0) 29)
+    × (startPlace (poweredOn memory .answer)
+    ≡ cond (eqb (length memory) 32) (cond (somewhere (ltb 15) memory) (lowest (ltb 15) memory) 0) 0)
 unfolding poweredOn
-start-number memory = by (eqb (length memory) 32) (somewhere (ltb 15) memory)
+start-told memory = (by (eqb (length memory) 32) (somewhere (ltb 15) memory) .0, by (eqb (length memory) 32) (somewhere (ltb 15) memory) .1)
   where
-    by : (long above : Bool)
-        → startNumber (cond (not long) (notStarted MemoryCount)
-        (cond above (notStarted (NibbleAbove (lowest (ltb 15) memory))) (record { answer = On; chip = freshChip memory })) .answer)
-        ≡ cond long (cond above 23 0) 29
-    by true true = refl
-    by true false = refl
-    by false above = refl
+    started : Bool → Bool → PoweredOn
+    started long above =
+        cond (not long) (notStarted MemoryCount)
+        (cond above (notStarted (NibbleAbove (lowest (ltb 15) memory))) (record { answer = On; chip = freshChip memory }))
+
+    by : (long above : Bool) → (startNumber (started long above .answer) ≡ cond long (cond above 23 0) 29)
+        × (startPlace (started long above .answer) ≡ cond long (cond above (lowest (ltb 15) memory) 0) 0)
+    by true true = (refl, refl)
+    by true false = (refl, refl)
+    by false above = (refl, refl)

@@ -1,11 +1,8 @@
 -- Power-on gives a valid chip; every sample, every tick and every advance keeps it valid; a refused sample changes nothing.
 -- Assumes nothing.
-use mathlib.Core.Path.{_≡_, _∙_, refl, ap}
-use mathlib.Core.Bool.{Bool, true, false}
+use mathlib.Core.Path.{_≡_, _∙_, refl}
 use mathlib.Core.List.{List, [], _∷_}
-use Prim.Native.Nat.{ℕ, zero, suc, _*_, _≤_, _<_}
-use native.Mathlib.Omega.{arith}
-use native.Mathlib.Nat.{le-of-suc-le-suc}
+use Prim.Native.Nat.{ℕ, zero, suc, _*_, _<_}
 use lib.Dec.{ltb}
 use lib.ListN.{length, getD, set, length-set}
 use borrow.Author.Tests.{lt-ltb}
@@ -25,7 +22,7 @@ use Rattle.frames.specs.declared.Answer.the-variants.{Refused}
 use Rattle.frames.specs.Samples.{levels, rose}
 use Rattle.frames.specs.Frames.{address}
 use Rattle.frames.specs.Answers.{act}
-use Rattle.frames.specs.Valid.{FrameValid, ActValid}
+use Rattle.frames.specs.Valid.{ActValid}
 use Rattle.frames.proofs.ValidLaws.{frame-valid}
 use Rattle.chip.specs.declared.Port.{Port}
 use Rattle.chip.specs.declared.Chip.{Chip}

@@ -8,7 +8,7 @@ use Rattle.ground.specs.declared.Refusal.{Refusal}
 use Rattle.ground.specs.declared.Refusal.the-variants.{NibbleAbove, MemoryCount}
 use Rattle.ground.specs.Outcomes.{Rung, refusedIf, ladder}
 use Rattle.ground.specs.Places.{lowest, somewhere}
-use Rattle.ground.specs.Refusals.{refusalNumber}
+use Rattle.ground.specs.Refusals.{refusalNumber, refusalPlace}
 use Rattle.rules.specs.Effects.{powerOn}
 use Rattle.frames.specs.declared.Phase.the-variants.{Idle}
 use Rattle.frames.specs.declared.Line.the-variants.{Released}
@@ -18,10 +18,14 @@ use Rattle.chip.specs.declared.Start.{Start}
 use Rattle.chip.specs.declared.Start.the-variants.{On, Refused}
 use Rattle.chip.specs.declared.PoweredOn.{PoweredOn}
 
--- The paper's number for an answer: 0 where the chip is on, else the refusal's.
+-- The paper's number and place for an answer: 0 where the chip is on, else the refusal's.
 abbrev pub startNumber : Start → ℕ
 startNumber On = 0
 startNumber (Refused refusal) = refusalNumber refusal
+
+abbrev pub startPlace : Start → ℕ
+startPlace On = 0
+startPlace (Refused refusal) = refusalPlace refusal
 
 -- The caller's memory, the settings of power-on, all lines high, no frame, and DATA released.
 abbrev pub freshChip : List ℕ → Chip

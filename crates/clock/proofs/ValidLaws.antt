@@ -10,7 +10,7 @@ use Rattle.clock.specs.declared.Source.{Source}
 use Rattle.clock.specs.declared.Source.the-variants.{Xtal, Rc, Ext}
 use Rattle.clock.specs.declared.Timer.{Timer}
 use Rattle.clock.specs.declared.Counters.{Counters}
-use Rattle.clock.specs.Ticks.{watchdogStepped, due, timerStepped, baseTicked, prescaledTick, countersTicked, timerCleared, watchdogCleared}
+use Rattle.clock.specs.Ticks.{due, timerStepped, baseTicked, prescaledTick, countersTicked, timerCleared, watchdogCleared}
 use Rattle.clock.specs.Valid.{TimerValid, CountersValid}
 
 pub timerStepped-valid : (rate : ℕ) (t : Timer) → TimerValid t → TimerValid (timerStepped rate t)

@@ -1,5 +1,5 @@
 -- 01 "State record and simulator", what is valid: the ranges of the counters. Assumes nothing.
-use Prim.Native.Nat.{ℕ, _<_}
+use Prim.Native.Nat.{_<_}
 use Rattle.clock.specs.declared.Timer.{Timer}
 use Rattle.clock.specs.declared.Counters.{Counters}
 

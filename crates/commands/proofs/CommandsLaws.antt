@@ -10,9 +10,8 @@ use Rattle.commands.specs.declared.Bias.the-variants.{Half, Third}
 use Rattle.commands.specs.declared.Commons.the-variants.{Two, Three, Four}
 use Rattle.commands.specs.declared.Command.{Command}
 use Rattle.commands.specs.declared.Command.the-variants.{SysDis, SysEn, LcdOff, LcdOn, TimerDis, WdtDis, TimerEn, WdtEn, ToneOff, ToneOn, ClrTimer, ClrWdt, Xtal32k, Rc256k, Ext256k, BiasCom, Tone4k, Tone2k, IrqDis, IrqEn, Rate, Test, Normal}
-use Rattle.commands.specs.declared.Decoded.{Decoded}
-use Rattle.commands.specs.declared.Decoded.the-variants.{Undefined, Means}
-use Rattle.commands.specs.Commands.{within, biasBy, commonsBy, byteMeaning, codeMeaning, undefined, commandFault, below, Proper, ProperMeaning}
+use Rattle.commands.specs.declared.Decoded.the-variants.{Means}
+use Rattle.commands.specs.Commands.{within, byteMeaning, codeMeaning, undefined, commandFault, below, Proper, ProperMeaning}
 use Rattle.commands.specs.Numbers.{commandNumber}
 
 -- 88 upper bytes are undefined

@@ -1,7 +1,7 @@
 -- The table of the 512 codes follows the pattern rule, and the numbers in it can be read back: two tests, which antt
 -- computes over every code, and one law that carries a test to the code at hand. Assumes nothing.
 use mathlib.Core.Path.{_≡_, _∙_, refl, sym, ap}
-use mathlib.Core.Bool.{Bool, true, false, cond}
+use mathlib.Core.Bool.{true, false, cond}
 use mathlib.Core.List.{List, [], _∷_}
 use Prim.Native.Nat.{ℕ, _*_, _%_, _<_}
 use native.Mathlib.Decide.{decLt}

@@ -1,6 +1,6 @@
 -- The numbers that 01 gives the cases of each enum: bytes of "State record and simulator", codes of "Commands".
 -- Assumes nothing.
-use Prim.Native.Nat.{ℕ, _+_, _*_}
+use Prim.Native.Nat.{ℕ, _+_}
 use Rattle.commands.specs.declared.Bias.{Bias}
 use Rattle.commands.specs.declared.Bias.the-variants.{Half, Third}
 use Rattle.commands.specs.declared.Commons.{Commons}

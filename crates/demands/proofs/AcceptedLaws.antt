@@ -1,19 +1,19 @@
 -- What a request that the driver accepts has passed: no row of its table held. Assumes nothing.
 use mathlib.Core.Path.{_≡_, _∙_, refl, sym, ap}
-use mathlib.Core.Bool.{Bool, true, false}
+use mathlib.Core.Bool.{true, false}
 use mathlib.Core.List.{List, [], _∷_}
-use Prim.Native.Nat.{ℕ, zero, suc, _+_, _*_, _≤_, _<_, suc-le-suc, zero-le}
+use Prim.Native.Nat.{ℕ, suc, _+_, _*_, _≤_, _<_, suc-le-suc, zero-le}
 use native.Mathlib.Decide.{decLt}
 use native.Mathlib.Nat.{zero-add}
 use native.Mathlib.Omega.{arith}
 use lib.Dec.{ltb}
 use lib.ListN.{length, take, getD}
 use borrow.Author.Tests.{ltb-false, eqb-false, lt-ltb, le-ltb}
-use Rattle.ground.specs.Places.{lowest, somewhere}
+use Rattle.ground.specs.Places.{lowest}
 use Rattle.ground.specs.Written.{over}
 use Rattle.ground.proofs.WrittenLaws.{take-over}
 use Rattle.ground.proofs.PlacesLaws.{lowest-below, none-above}
-use Rattle.commands.specs.Commands.{codeMeaning, undefined}
+use Rattle.commands.specs.Commands.{codeMeaning}
 use Rattle.chip.specs.Valid.{Nibbles}
 use Rattle.ground.specs.declared.Outcome.the-variants.{Written}
 use Rattle.ground.specs.Outcomes.{left}

@@ -1,9 +1,9 @@
 -- A command stream, fed to a port: each command is one computation, and its ninth bit is answered with its code.
 -- Assumes nothing.
-use mathlib.Core.Path.{_≡_, _∙_, refl, sym, ap}
+use mathlib.Core.Path.{_≡_, _∙_, refl, ap}
 use mathlib.Core.Bool.{Bool, true, false, true≢false}
 use mathlib.Core.List.{List, [], _∷_, _++_}
-use Prim.Native.Nat.{ℕ, zero, suc, _+_, _*_, _/_, _%_, _≤_, _<_}
+use Prim.Native.Nat.{ℕ, _+_, _*_, _/_, _%_, _<_}
 use native.Mathlib.Omega.{arith}
 use Rattle.ground.specs.Bits.{bitAt}
 use Rattle.ground.specs.Values.{values, agree}
@@ -14,7 +14,7 @@ use Rattle.frames.specs.declared.Levels.{Levels}
 use Rattle.frames.specs.declared.Phase.the-variants.{Command}
 use Rattle.frames.specs.declared.Line.the-variants.{Released}
 use Rattle.frames.specs.declared.Answer.{Answer}
-use Rattle.frames.specs.declared.Answer.the-variants.{Nothing, Opened, Closed, Taken, Obeyed}
+use Rattle.frames.specs.declared.Answer.the-variants.{Nothing, Opened, Closed, Obeyed}
 use Rattle.frames.specs.Frames.{more, frame, closed, taken, identTaken, identified, commandTaken, commandAnswer, decodedAnswer}
 use Rattle.frames.specs.Answers.{act}
 use Rattle.chip.specs.declared.Port.{Port}

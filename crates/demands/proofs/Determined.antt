@@ -2,8 +2,6 @@
 -- meet them. Assumes nothing.
 use mathlib.Core.Path.{_≡_, _∙_, sym}
 use Rattle.ground.specs.Determined.{DeterminedWith}
-use Rattle.chip.specs.declared.Chip.{Chip}
-use Rattle.ground.specs.declared.Outcome.{Outcome}
 use Rattle.demands.specs.declared.Rehearsed.{Rehearsed}
 use Rattle.demands.proofs.rehearse.Kinds as rehearse-kinds
 use Rattle.demands.proofs.rehearse.Reads as rehearse-reads

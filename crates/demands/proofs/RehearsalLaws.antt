@@ -1,7 +1,6 @@
 -- Laws of a rehearsal: one sample more with its pause, and the end; and a rehearsal is a write that stops, so demand 3 holds
 -- of the chip that it returns. Assumes nothing.
 use mathlib.Core.Path.{_≡_, _∙_, refl, sym, ap, subst}
-use mathlib.Core.Bool.{Bool, true, false}
 use mathlib.Core.List.{List, [], _∷_}
 use Prim.Native.Nat.{ℕ, suc, _+_, _-_, _*_, _≤_, _<_}
 use native.Mathlib.Omega.{arith}
@@ -9,11 +8,9 @@ use native.Mathlib.Nat.{suc-mul}
 use native.Mathlib.Numerals.{add-one}
 use lib.ListN.{length, take, drop, getD, drop-of-length-le}
 use lib.Seq.{drop-cons, take-nil}
-use borrow.Author.Tests.{le-ltb}
 use Rattle.chip.specs.declared.Chip.{Chip}
 use Rattle.chip.specs.Chip.{stepped, advanced}
 use Rattle.ground.specs.declared.Refusal.{Refusal}
-use Rattle.ground.specs.Places.{somewhere}
 use Rattle.ground.specs.Written.{over}
 use Rattle.ground.proofs.WrittenLaws.{length-over}
 use Rattle.ground.specs.declared.Outcome.{Outcome}
@@ -21,7 +18,6 @@ use Rattle.ground.specs.declared.Outcome.the-variants.{Written, Refused}
 use Rattle.ground.specs.Outcomes.{left, ComesTo}
 use Rattle.driver.specs.Refusals.{writeAnswer}
 use Rattle.driver.specs.Streams.{writeStream}
-use Rattle.demands.specs.Accepted.{AcceptsWrite}
 use Rattle.demands.specs.Events.{after, samples, ticks}
 use Rattle.demands.specs.Demand3.{Survives}
 use Rattle.demands.specs.Rehearsal.{paced, stopped, Rehearses, Demand3OfRehearsals}

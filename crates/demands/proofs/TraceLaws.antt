@@ -1,31 +1,21 @@
 -- What the samples of each stream are answered, one by one: every block of a stream is one computation. Assumes nothing.
 use mathlib.Core.Path.{_≡_, _∙_, refl, sym, ap}
-use mathlib.Core.Bool.{Bool, true, false, cond}
+use mathlib.Core.Bool.{Bool, true}
 use mathlib.Core.List.{List, [], _∷_, _++_}
-use Prim.Native.Nat.{ℕ, zero, suc, _+_, _*_, _/_, _%_, _≤_, _<_}
+use Prim.Native.Nat.{ℕ, zero, suc, _+_, _%_, _≤_, _<_}
 use native.Mathlib.Omega.{arith}
-use lib.Dec.{eqb}
-use lib.ListN.{length, getD, set}
+use lib.ListN.{length, set}
 use Rattle.ground.specs.Bits.{bitAt}
-use Rattle.ground.specs.Values.{values, agree}
-use Rattle.commands.specs.declared.Decoded.{Decoded}
-use Rattle.commands.specs.declared.Decoded.the-variants.{Undefined, Means}
-use Rattle.commands.specs.Commands.{codeMeaning, undefined}
-use Rattle.frames.specs.declared.Levels.{Levels}
-use Rattle.frames.specs.declared.Phase.the-variants.{Writing, Reading, Command}
-use Rattle.frames.specs.declared.Line.{Line}
-use Rattle.frames.specs.declared.Line.the-variants.{Released, Driven}
 use Rattle.frames.specs.declared.Answer.{Answer}
-use Rattle.frames.specs.declared.Answer.the-variants.{Nothing, Opened, Closed, Taken, Stored, Obeyed, Offered}
-use Rattle.frames.specs.Frames.{more, next, frame, closed, taken, identTaken, identified, writeToTaken, readToTaken, nibbleTaken, commandTaken, commandAnswer, decodedAnswer, offered, readOffered}
+use Rattle.frames.specs.declared.Answer.the-variants.{Nothing, Opened, Closed, Taken, Stored}
+use Rattle.frames.specs.Frames.{frame, closed, taken, identTaken, identified, writeToTaken, nibbleTaken}
 use Rattle.chip.specs.declared.Port.{Port}
 use Rattle.chip.specs.Chip.{memoryAfter, framedBy, moved}
 use Rattle.chip.specs.Valid.{Nibbles}
-use Rattle.driver.specs.Refusals.{commandFault}
-use Rattle.driver.specs.Streams.{writeId, readId, commandId, addressBits, nibbleBits, commandBits}
+use Rattle.driver.specs.Streams.{writeId, addressBits, nibbleBits}
 use Rattle.demands.proofs.Ports.{runP, trace, trace-append, idle, high, high-idles}
 use Rattle.demands.proofs.SettingsLaws.{Plain}
-use Rattle.demands.proofs.StreamLevels.{up, bitsL, headL, nibblesL, commandsL, readsL}
+use Rattle.demands.proofs.StreamLevels.{up, bitsL, nibblesL}
 use Rattle.demands.proofs.WriteLaws.{ready, nibble-bits, nibble-step, head-at, writeL}
 
 -- n bits that are taken and complete nothing

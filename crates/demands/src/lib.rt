@@ -1,7 +1,7 @@
 // The mission's demands: as theorems over the chip and the driver, in specs/ and proofs/, and as code that shows demand 3,
 // a write that is stopped. Assumes nothing.
 ghost use mathlib.Core.Path.{_≡_};
-ghost use lib.ListN.{length, take};
+ghost use lib.ListN.{take};
 ghost use Rattle.demands.specs.Events.{after};
 ghost use Rattle.demands.specs.Rehearsal.{paced, Rehearses};
 use chip::Chip;

@@ -7,7 +7,7 @@ use native.Mathlib.Numerals.{add-one}
 use lib.ListN.{length, drop, getD, drop-of-length-le}
 use lib.Seq.{drop-cons}
 use Rattle.ground.specs.Bits.{bitNumber}
-use Rattle.ground.specs.Values.{values, agree}
+use Rattle.ground.specs.Values.{agree}
 use Rattle.driver.specs.Streams.{sendBits, readBit, closing, nibbleBits, commandBits}
 use Rattle.driver.specs.Streams.{sendNibbles, readNibbles, sendCommands}
 use Rattle.driver.specs.Streams.{writeStream, readStream, commandStream, nibbleOf, decoded}

@@ -6,9 +6,9 @@ use Prim.Native.Nat.{ℕ, _+_, _≤_}
 use native.Mathlib.Omega.{arith}
 use native.Mathlib.Nat.{add-zero}
 use native.Mathlib.Numerals.{add-one}
-use lib.ListN.{length, set, take, drop, length-append, take-append-drop}
-use lib.Seq.{sets, sets-eq}
-use Rattle.ground.specs.Written.{over, Wrote}
+use lib.ListN.{length, set, length-append, take-append-drop}
+use lib.Seq.{sets-eq}
+use Rattle.ground.specs.Written.{Wrote}
 use Rattle.ground.proofs.WrittenLaws.{length-over, set-over, wrote-then}
 
 -- two stores side by side

@@ -1,7 +1,6 @@
 // The host's side of an HT1621: sample streams for writes, reads and commands, and the meaning of what a read noted.
 // Every call is answered: with the number of bytes that it wrote at the start of the buffer lent, or with the reason
 // why it wrote none. Assumes nothing.
-ghost use mathlib.Core.Path.{_≡_};
 ghost use lib.ListN.{length};
 ghost use Rattle.ground.specs.Outcomes.{ComesTo};
 ghost use Rattle.driver.specs.Streams.{writeStream, readStream, commandStream, decoded};

@@ -1,14 +1,14 @@
 -- Every sample keeps a frame valid, and what it stores is a nibble. The argument goes by the rule that applies, then by the
 -- phase, then by whether the bit is the last that the phase collects. Assumes nothing.
-use mathlib.Core.Path.{_≡_, refl, sym}
+use mathlib.Core.Path.{_≡_, refl}
 use mathlib.Core.Bool.{Bool, true, false, cond}
 use Prim.Native.Nat.{ℕ, _+_, _*_, _/_, _%_, _^_, _≤_, _<_}
 use native.Mathlib.Nat.{pow-suc, mod-le}
 use native.Mathlib.Numerals.{add-one}
 use native.Mathlib.Omega.{arith}
 use lib.Dec.{eqb, ltb}
-use borrow.Author.Tests.{ltb-true, ltb-false}
-use Rattle.ground.specs.Bits.{bitAt, bitNumber}
+use borrow.Author.Tests.{ltb-true}
+use Rattle.ground.specs.Bits.{bitNumber}
 use Rattle.ground.proofs.ChoiceLaws.{either, by-cases}
 use Rattle.commands.specs.declared.Decoded.{Decoded}
 use Rattle.commands.specs.declared.Decoded.the-variants.{Undefined, Means}
@@ -20,8 +20,7 @@ use Rattle.frames.specs.declared.Line.{Line}
 use Rattle.frames.specs.declared.Line.the-variants.{Released, Driven}
 use Rattle.frames.specs.declared.Answer.{Answer}
 use Rattle.frames.specs.declared.Framed.{Framed}
-use Rattle.frames.specs.declared.Levels.{Levels}
-use Rattle.frames.specs.Samples.{clocked, rose, edge}
+use Rattle.frames.specs.Samples.{clocked}
 use Rattle.frames.specs.Frames.{more, turned, decodedAnswer, identified, identTaken, readToTaken, writeToTaken, nibbleTaken, commandAnswer, commandTaken, taken, readOffered, offered, closed, frame}
 use Rattle.frames.specs.Answers.{act, unfinished, lineNumber}
 use Rattle.frames.specs.Valid.{FrameValid, ActValid}

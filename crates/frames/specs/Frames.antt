@@ -1,7 +1,7 @@
 -- 01 "Inside a frame": what each phase makes of a bit that is taken or offered, of opening and of closing.
 -- Assumes nothing.
 use Prim.Native.Nat.{ℕ, _+_, _*_, _/_, _%_}
-use mathlib.Core.Bool.{Bool, true, false, cond}
+use mathlib.Core.Bool.{Bool, cond}
 use lib.Dec.{eqb, ltb}
 use Rattle.ground.specs.Bits.{bitAt, bitNumber}
 use Rattle.commands.specs.declared.Decoded.{Decoded}

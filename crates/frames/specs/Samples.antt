@@ -1,6 +1,6 @@
 -- 01 "Samples": the levels of a sample, and the four rules in their house order. Assumes nothing.
 use Prim.Native.Nat.{ℕ, _/_, _%_}
-use mathlib.Core.Bool.{Bool, true, false, cond, not, _&&_}
+use mathlib.Core.Bool.{Bool, cond, not, _&&_}
 use lib.Dec.{eqb}
 use Rattle.frames.specs.declared.Levels.{Levels}
 use Rattle.frames.specs.declared.Edge.{Edge}

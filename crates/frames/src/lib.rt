@@ -3,7 +3,7 @@
 ghost use mathlib.Core.Path.{_≡_};
 ghost use Rattle.ground.specs.Bits.{bitAt};
 ghost use Rattle.frames.specs.Samples.{levels, rose, clocked, edge};
-ghost use Rattle.frames.specs.Frames.{more, turned, reached, next, address, stray, collected, identified, identTaken, readToTaken, writeToTaken, nibbleTaken, commandAnswer, commandTaken, taken, readOffered, writeOffered, offered, closed, frame};
+ghost use Rattle.frames.specs.Frames.{more, turned, next, address, stray, collected, identified, identTaken, readToTaken, writeToTaken, nibbleTaken, commandAnswer, commandTaken, taken, readOffered, writeOffered, offered, closed, frame};
 ghost use Rattle.frames.specs.Answers.{act, unfinished, lineNumber};
 use commands::Decoded;
 use ground::Refusal;

@@ -10,7 +10,7 @@ use Rattle.ground.specs.declared.Outcome.{Outcome}
 use Rattle.ground.specs.declared.Outcome.the-variants.{Written, Refused}
 use Rattle.ground.specs.Refusals.{refusalNumber, refusalPlace}
 use Rattle.ground.specs.Written.{over}
-use Rattle.ground.specs.Outcomes.{left, ComesTo, Rung, ladder, Row, row, NoneHolds, RefusedWith, AsTabled}
+use Rattle.ground.specs.Outcomes.{ComesTo, Rung, ladder, Row, row, NoneHolds, RefusedWith, AsTabled}
 
 -- ---- what a call owes
 

@@ -1,6 +1,6 @@
 -- 01 "Ticks", its pins: IRQ, BZ and its partner, and whether a cell shows. Assumes nothing.
 use Prim.Native.Nat.{ℕ, _+_, _*_, _%_}
-use mathlib.Core.Bool.{Bool, true, false, not, _&&_}
+use mathlib.Core.Bool.{Bool, false, not, _&&_}
 use lib.Dec.{leb, ltb}
 use Rattle.clock.specs.declared.Timer.{Timer}
 use Rattle.rules.specs.declared.IrqSource.{IrqSource}

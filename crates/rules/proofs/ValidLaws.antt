@@ -1,5 +1,4 @@
 -- Power-on gives valid settings, and commands and ticks keep them so. Assumes nothing.
-use mathlib.Core.Path.{_≡_}
 use Prim.Native.Nat.{ℕ, zero, suc}
 use native.Mathlib.Omega.{arith}
 use Rattle.ground.proofs.ChoiceLaws.{either}

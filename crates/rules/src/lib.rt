@@ -2,7 +2,7 @@
 // counters; what a command does to them, and what a tick of the clock does. All goes by value. Assumes nothing.
 ghost use mathlib.Core.Path.{_≡_};
 ghost use Rattle.rules.specs.Effects.{withoutTimeBase, withoutFlag, systemOff, timerOff, watchdogOff, effect, powerOn};
-ghost use Rattle.rules.specs.Settings.{systemTo, sourceTo, lcdTo, displayTo, toneTo, pitchTo, irqTo, irqSourceTo, timeBaseTo, rateTo, countersTo, timerTo, testTo};
+ghost use Rattle.rules.specs.Settings.{systemTo, sourceTo, lcdTo, displayTo, toneTo, pitchTo, irqTo, irqSourceTo, timeBaseTo, rateTo, timerTo, testTo};
 ghost use Rattle.rules.specs.Ticks.{running, ticked, advanced};
 use clock::BaseCounter;
 use clock::Counters;

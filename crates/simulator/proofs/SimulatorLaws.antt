@@ -5,7 +5,7 @@ use mathlib.Core.List.{List, _++_, map, append-nil}
 use Prim.Native.Nat.{ℕ, zero, suc, _+_, _*_, _%_, _≤_, _<_}
 use native.Mathlib.Omega.{arith}
 use lib.Bits.{bitAnd}
-use lib.ListN.{length, take, drop, drop-of-length-le}
+use lib.ListN.{length, take, drop-of-length-le}
 use borrow.Author.Tests.{lt-ltb, le-ltb}
 use Rattle.ground.specs.Bits.{bitNumber}
 use Rattle.ground.specs.Written.{over}

@@ -3,11 +3,11 @@
 use mathlib.Core.Path.{_≡_, _∙_, refl, sym, ap}
 use mathlib.Core.Bool.{Bool, true, false, cond}
 use mathlib.Core.List.{List, _++_, append-nil}
-use Prim.Native.Nat.{ℕ, zero, suc, _+_, _*_, _/_, _%_, _^_, _≤_, _<_}
+use Prim.Native.Nat.{ℕ, zero, suc, _+_, _/_, _%_, _^_, _≤_, _<_}
 use native.Mathlib.Omega.{arith}
 use native.Mathlib.Nat.{mod-add-div, mod-lt, div-eq-of-lt, lt-of-lt-of-le}
-use lib.Dec.{eqb, leb}
-use lib.ListN.{length, take, drop, getD, length-append, drop-of-length-le}
+use lib.Dec.{eqb}
+use lib.ListN.{length, drop, length-append, drop-of-length-le}
 use lib.Pow.{pow-mono}
 use lib.Seq.{length-take-le}
 use borrow.Author.Tests.{le-leb, lt-ltb, eq-eqb}
@@ -19,13 +19,11 @@ use Rattle.commands.specs.declared.Bias.the-variants.{Half, Third}
 use Rattle.commands.specs.declared.Commons.{Commons}
 use Rattle.commands.specs.declared.Commons.the-variants.{Two, Three, Four}
 use Rattle.commands.specs.Numbers.{biasNumber, commonsNumber}
-use Rattle.rules.specs.declared.Settings.{Settings}
 use Rattle.rules.specs.declared.Pitch.{Pitch}
 use Rattle.rules.specs.declared.Pitch.the-variants.{FourK, TwoK}
 use Rattle.rules.specs.declared.IrqSource.{IrqSource}
 use Rattle.rules.specs.declared.IrqSource.the-variants.{Neither, TimeBase, Flag}
 use Rattle.rules.specs.Numbers.{sourceNumber, pitchNumber, irqSourceNumber}
-use Rattle.rules.specs.Valid.{SettingsValid}
 use Rattle.frames.specs.declared.Levels.{Levels}
 use Rattle.frames.specs.declared.Phase.{Phase}
 use Rattle.frames.specs.declared.Phase.the-variants.{Idle, Ident, ReadTo, WriteTo, Reading, Writing, Command, Dead}
@@ -37,13 +35,13 @@ use Rattle.frames.specs.Answers.{unfinished, lineNumber}
 use Rattle.frames.specs.Valid.{FrameValid}
 use Rattle.frames.proofs.ValidLaws.{line-small}
 use Rattle.chip.specs.declared.Chip.{Chip}
-use Rattle.chip.specs.Valid.{Nibbles, Valid}
+use Rattle.chip.specs.Valid.{Valid}
 use Rattle.state.specs.FrameCodes.{linesNumber, phaseRead, phaseIn, phaseNumber, valueOf, positionOf, lineRead, lineIn}
-use Rattle.state.specs.Record.{mostBits, goesWithCs, bitsRight, restRight, frameRight, upTo, maxima, byte, valueIn, framesRight, settingsRight, recordValid, recordOf, tailOf, chipOf}
+use Rattle.state.specs.Record.{goesWithCs, bitsRight, restRight, frameRight, upTo, maxima, byte, valueIn, framesRight, settingsRight, recordValid, recordOf, tailOf, chipOf}
 use Rattle.state.proofs.RangesLaws.{and-both, upTo-nibbles, upTo-memory}
 use Rattle.state.proofs.CodesLaws.{bit-back, levels-back, phase-back, line-back, source-back, bias-back, commons-back, pitch-back, irqSource-back}
 use Rattle.state.proofs.FramesLaws.{FrameHas, frame-has, frame-zeros}
-use Rattle.state.proofs.TripLaws.{RecordHas, valid-has, within, gather, gathered}
+use Rattle.state.proofs.TripLaws.{valid-has, within, gather, gathered}
 
 -- ---- a valid record says a valid chip
 

@@ -1,12 +1,10 @@
 -- Laws of the coded bytes: a case written and read is the same case, and a byte that reads to a case is written the same.
 -- Assumes nothing.
 use mathlib.Core.Path.{_≡_, _∙_, refl, sym, ap}
-use mathlib.Core.Bool.{Bool, true, false, cond, _&&_, _||_}
-use Prim.Native.Nat.{ℕ, zero, suc, _+_, _*_, _/_, _%_, _^_, _≤_, _<_}
+use mathlib.Core.Bool.{Bool, true, false, cond}
+use Prim.Native.Nat.{ℕ, _+_, _*_, _≤_}
 use native.Mathlib.Omega.{arith}
-use lib.Dec.{eqb, leb, ltb}
-use lib.ListN.{getD}
-use borrow.Author.Tests.{leb-true, ltb-true, eqb-true}
+use lib.Dec.{eqb}
 use Rattle.ground.specs.Bits.{bitNumber}
 use Rattle.ground.specs.Values.{agree}
 use Rattle.clock.specs.declared.Source.{Source}
@@ -39,7 +37,7 @@ use Rattle.state.specs.declared.CommonsRead.the-variants.{Has}
 use Rattle.state.specs.declared.PitchRead.the-variants.{Sounds}
 use Rattle.state.specs.declared.IrqSourceRead.the-variants.{Of}
 use Rattle.state.specs.FrameCodes.{linesNumber, phaseRead, phaseIn, phaseNumber, valueOf, positionOf, lineRead, lineIn}
-use Rattle.state.specs.Selections.{sourceRead, isSource, sourceIn, biasRead, isBias, biasIn, commonsRead, isCommons, commonsIn, pitchRead, isPitch, pitchIn, irqSourceRead, isIrqSource, irqSourceIn}
+use Rattle.state.specs.Selections.{sourceRead, sourceIn, biasRead, isBias, biasIn, commonsRead, isCommons, commonsIn, pitchRead, isPitch, pitchIn, irqSourceRead, irqSourceIn}
 
 -- ---- written and read
 

@@ -1,19 +1,15 @@
 -- Laws of a frame's bytes: right ones say a phase that is written the same, and that is valid; and a valid phase is written
 -- as right ones. Assumes nothing.
-use mathlib.Core.Path.{_≡_, _∙_, refl, sym, ap}
-use mathlib.Core.Bool.{Bool, true, false, cond, not, _&&_, _||_}
-use Prim.Native.Nat.{ℕ, zero, suc, _+_, _*_, _/_, _%_, _^_, _≤_, _<_}
+use mathlib.Core.Path.{_≡_, refl, sym}
+use mathlib.Core.Bool.{true, _&&_}
+use Prim.Native.Nat.{ℕ, zero, suc, _^_, _≤_, _<_}
 use native.Mathlib.Omega.{arith}
 use lib.Dec.{eqb, leb, ltb}
 use lib.ListN.{getD}
-use borrow.Author.Tests.{leb-true, ltb-true, eqb-true, le-leb, lt-ltb}
+use borrow.Author.Tests.{leb-true, ltb-true, eqb-true}
 use Rattle.frames.specs.declared.Phase.{Phase}
-use Rattle.frames.specs.declared.Phase.the-variants.{Idle, Ident, ReadTo, WriteTo, Reading, Writing, Command, Dead}
-use Rattle.frames.specs.declared.Line.{Line}
-use Rattle.frames.specs.declared.Line.the-variants.{Released, Driven}
 use Rattle.frames.specs.Frames.{address}
-use Rattle.frames.specs.Answers.{unfinished, lineNumber}
-use Rattle.frames.specs.Valid.{FrameValid}
+use Rattle.frames.specs.Answers.{unfinished}
 use Rattle.state.specs.FrameCodes.{phaseRead, phaseIn, phaseNumber, valueOf, positionOf}
 use Rattle.state.specs.Record.{mostBits, goesWithCs, bitsRight, restRight, frameRight}
 use Rattle.state.proofs.RangesLaws.{and-left, and-right, each-of-3}

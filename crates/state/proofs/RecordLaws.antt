@@ -30,7 +30,7 @@ use Rattle.state.specs.declared.Reading.{Reading}
 use Rattle.state.specs.declared.Verdict.the-variants as verdict
 use Rattle.state.specs.FrameCodes.{lineRead}
 use Rattle.state.specs.Answers.{verdictNumber, settingsNumber, settingsRead, settingsIn, malformed, readOf, writtenAs}
-use Rattle.state.specs.Record.{frameBytes, counterBytes, settingsBytes, upTo, maxima, mostBits, byte, valueIn, framesRight, bytesFit, recordValid, settingsRight, settingsOf, phaseAt, chipOf, tailOf, recordOf}
+use Rattle.state.specs.Record.{frameBytes, counterBytes, settingsBytes, upTo, maxima, mostBits, byte, framesRight, bytesFit, recordValid, settingsRight, settingsOf, phaseAt, chipOf, tailOf, recordOf}
 use Rattle.state.proofs.RangesLaws.{and-left, upTo-at}
 use Rattle.state.proofs.CodesLaws.{phase-there, line-there}
 

@@ -1,16 +1,15 @@
 -- The record's round trip: a valid record says a valid chip, from which its bytes come back; a valid chip written is a
 -- valid record, and read again the same chip. Assumes nothing.
-use mathlib.Core.Path.{_≡_, _∙_, refl, sym, ap}
-use mathlib.Core.Bool.{Bool, true, false, _&&_}
-use mathlib.Core.List.{List, [], _∷_, _++_, append-assoc}
-use Prim.Native.Nat.{ℕ, zero, suc, _+_, _*_, _/_, _%_, _≤_, _<_}
+use mathlib.Core.Path.{_≡_, _∙_, sym, ap}
+use mathlib.Core.Bool.{true}
+use mathlib.Core.List.{List, [], _∷_, _++_}
+use Prim.Native.Nat.{ℕ, zero, suc, _+_, _/_, _%_, _≤_, _<_}
 use native.Mathlib.Omega.{arith}
-use native.Mathlib.Nat.{add-zero, add-suc, suc-add, mod-add-div, add-mul-mod-self-left, add-mul-div-left, mod-eq-of-lt, div-eq-of-lt}
+use native.Mathlib.Nat.{add-zero, add-suc, suc-add, add-mul-mod-self-left, add-mul-div-left, mod-eq-of-lt, div-eq-of-lt}
 use lib.Dec.{eqb}
 use lib.ListN.{length, take, drop, getD, replicate, take-append-drop, length-drop}
-use lib.Seq.{drop-cons, length-take-le}
+use lib.Seq.{drop-cons}
 use borrow.Author.Tests.{eqb-true}
-use Rattle.chip.specs.declared.Chip.{Chip}
 use Rattle.state.specs.Selections.{sourceRead, isSource, biasRead, isBias, commonsRead, isCommons, pitchRead, isPitch, irqSourceRead, isIrqSource}
 use Rattle.state.specs.Record.{upTo, maxima, byte, valueIn, framesRight, bytesFit, settingsRight, recordValid, recordOf, tailOf, chipOf}
 use Rattle.state.proofs.RangesLaws.{and-left, and-right, each-of-3, each-of-5, upTo-at, upTo-drop, upTo-zeros}

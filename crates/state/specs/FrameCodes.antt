@@ -1,7 +1,7 @@
 -- 01 "State record and simulator", bytes 32 to 39: the codes of the lines, of a frame and of DATA, each as the case that a
 -- byte reads to and the number that writes it. Assumes nothing.
 use Prim.Native.Nat.{ℕ, _+_, _*_}
-use mathlib.Core.Bool.{Bool, true, false, cond}
+use mathlib.Core.Bool.{true, false, cond}
 use lib.Dec.{eqb}
 use Rattle.ground.specs.Bits.{bitNumber}
 use Rattle.frames.specs.declared.Levels.{Levels}

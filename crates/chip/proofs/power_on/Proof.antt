@@ -1,5 +1,5 @@
 -- `chip::power_on` meets its contract. Assumes nothing.
-use mathlib.Core.Path.{_∙_, sym}
+use mathlib.Core.Path.{sym}
 use Rattle.chip.specs.PowerOn.{poweredOn}
 use Rattle.ground.proofs.WrittenLaws.{first32-all}
 use borrow.Author.Tests.{lt-ltb, le-ltb, eq-eqb, ne-eqb}

@@ -1,6 +1,6 @@
 -- `demands::fed` meets its contract: what is left of the samples, from the chip so far, leads where all of them lead from the
 -- first. Assumes nothing.
-use mathlib.Core.Path.{_≡_, _∙_, refl, sym}
+use mathlib.Core.Path.{_≡_, _∙_, sym}
 use Prim.Native.Nat.{_-_, _≤_}
 use native.Mathlib.Nat.{sub-zero}
 use native.Mathlib.Omega.{arith}

@@ -1,6 +1,6 @@
 -- `driver::commands` meets its contract: each refusal is the first that applies, and else the whole stream is written.
 -- Assumes nothing.
-use mathlib.Core.Path.{_∙_, sym}
+use mathlib.Core.Path.{sym}
 use Prim.Native.Nat.{_+_, _*_}
 use native.Mathlib.Omega.{arith}
 use borrow.Author.Needs.{needs}

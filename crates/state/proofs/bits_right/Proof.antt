@@ -1,7 +1,7 @@
 -- `state::bits_right` meets its contract: a value shifted out by its count is below the power. Assumes nothing.
 use borrow.Author.Tests.{lt-leb, le-leb}
 use native.Mathlib.Omega.{arith}
-use Rattle.state.specs.Record.{mostBits, bitsRight}
+use Rattle.state.specs.Record.{bitsRight}
 use Rattle.state.proofs.RecordLaws.{most-small, below-power}
 use borrow.Author.Needs.{needs}
 use Rattle.state.proofs.bits_right.Statement.{statement}

@@ -1,6 +1,6 @@
 -- `clock::Divider::due` meets its contract: the period is a shift of 128, and at 7 and above it is 1. Assumes nothing.
-use mathlib.Core.Path.{_≡_, _∙_}
-use Prim.Native.Nat.{ℕ, _-_, _/_, _^_, _<_}
+use mathlib.Core.Path.{_≡_}
+use Prim.Native.Nat.{ℕ, _-_}
 use native.Mathlib.Nat.{mod-one}
 use native.Mathlib.Omega.{arith}
 use lib.Pow.{pow-pos}

@@ -1,11 +1,11 @@
 -- `driver::notes::put_decoded` meets its contract: the bytes so far and the noted bits from `i` on make the whole.
 -- Assumes nothing.
-use mathlib.Core.Path.{_≡_, _∙_}
+use mathlib.Core.Path.{_≡_}
 use mathlib.Core.List.{[], _∷_}
 use Prim.Native.Nat.{_+_, _-_, _%_, _≤_}
 use native.Mathlib.Omega.{arith}
 use borrow.Author.Needs.{needs}
-use lib.ListN.{length, drop, getD, length-set}
+use lib.ListN.{length, drop}
 use Rattle.driver.specs.Streams.{decoded}
 use Rattle.driver.proofs.StreamsLaws.{decoded-next, decoded-end}
 use Rattle.ground.proofs.PlacesLaws.{none-above}
