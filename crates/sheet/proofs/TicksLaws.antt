@@ -1,5 +1,5 @@
 -- A tick of the bytes is a tick of the settings that they say, counter by counter. Assumes nothing.
-use mathlib.Core.Path.{_≡_, _∙_, refl, sym, ap, ap₂}
+use mathlib.Core.Path.{_≡_, _∙_, refl, ap}
 use mathlib.Core.Bool.{Bool, true, false, cond, _||_}
 use mathlib.Core.List.{List}
 use Prim.Native.Nat.{ℕ, _+_, _%_}
@@ -13,9 +13,8 @@ use Rattle.clock.specs.Ticks.{prescalerStepped, tonerStepped, dividerStepped, b
 use Rattle.rules.specs.declared.Settings.{Settings}
 use Rattle.rules.specs.Numbers.{sourceNumber}
 use Rattle.rules.specs.Settings.{timerTo, countersTo}
-use Rattle.rules.specs.Ticks.{isExt, running, ticked}
+use Rattle.rules.specs.Ticks.{running, ticked}
 use Rattle.state.proofs.CodesLaws.{bit-back}
-use Rattle.sheet.specs.Bytes.{runs}
 use Rattle.sheet.specs.Ticks.{wSteps, bSteps, dSteps, baseTick, clockTick, tick}
 use Rattle.sheet.proofs.BytesLaws.{spelt, runs-running}
 
