@@ -1,0 +1,154 @@
+-- Commands of bytes: the ninth bit makes of a valid record what the command means to the settings that it says. Assumes nothing.
+use mathlib.Core.Path.{_≡_, _∙_, refl, sym, ap, ap₂, subst}
+use mathlib.Core.Bool.{Bool, true, false, cond}
+use mathlib.Core.List.{List}
+use Prim.Native.Nat.{ℕ, _+_, _*_, _%_, _^_, _≤_, _<_}
+use native.Mathlib.Omega.{arith}
+use lib.Dec.{eqb, ltb}
+use lib.ListN.{drop, getD}
+use borrow.Author.Tests.{le-ltb, ltb-false}
+use Rattle.commands.specs.Commands.{byteMeaning}
+use Rattle.frames.specs.declared.Edge.{Edge}
+use Rattle.frames.specs.declared.Edge.the-variants.{Takes}
+use Rattle.frames.specs.declared.Phase.{Phase}
+use Rattle.frames.specs.declared.Phase.the-variants.{Command}
+use Rattle.frames.specs.declared.Line.the-variants.{Released}
+use Rattle.frames.specs.declared.Answer.{Answer}
+use Rattle.frames.specs.declared.Framed.{Framed}
+use Rattle.frames.specs.Samples.{levels, edge}
+use Rattle.frames.specs.Frames.{framed, frame, taken, commandTaken, decodedAnswer, address}
+use Rattle.frames.specs.Answers.{act, unfinished}
+use Rattle.chip.specs.declared.Chip.{Chip}
+use Rattle.chip.specs.Chip.{settingsAfter, framedBy, moved, stepped}
+use Rattle.chip.proofs.ValidLaws.{stepped-valid}
+use Rattle.place.specs.Place.{answerCode}
+use Rattle.state.specs.FrameCodes.{phaseRead, phaseNumber}
+use Rattle.state.specs.Record.{mostBits, goesWithCs, valueIn, settingsOf, recordValid, recordOf, chipOf}
+use Rattle.state.proofs.ChipLaws.{valid-chip}
+use Rattle.state.proofs.FramesLaws.{FrameHas, frame-has, FrameSame, frame-same}
+use Rattle.state.proofs.TripLaws.{valid-has, within}
+use Rattle.simulator.specs.Simulator.{stepReturns, stepBytes}
+use Rattle.sheet.specs.Bytes.{byte}
+use Rattle.sheet.specs.Commands.{defined, effectOf, NinthBit, CommandsOfBytes}
+use Rattle.sheet.proofs.BytesLaws.{settled, settings-left, bytes-spelt}
+use Rattle.sheet.proofs.CommandsLaws.{effect-same, defined-same, code-answer, code-obeyed, code-told}
+use Rattle.sheet.proofs.NinthBitLaws.{first-bit, edge-takes, takes-only, frame-keeps}
+
+cs-low : (high : Bool) → cond high false true ≡ true → high ≡ false
+cs-low true e = sym e
+cs-low false e = refl
+
+-- ---- a sample on a valid record
+
+module _ (b : List ℕ) (sample : ℕ) (valid : recordValid b ≡ true) where
+  abbrev c : Chip
+  c = chipOf b
+
+  has : FrameHas (byte b 32) (byte b 33) (byte b 34) (valueIn b) (byte b 37) (byte b 38) (byte b 39)
+  has = frame-has (byte b 32) (byte b 33) (byte b 34) (valueIn b) (byte b 37) (byte b 38) (byte b 39) (valid-has b valid .frame)
+
+  settled-said : drop 40 b ≡ settled (settingsOf b)
+  settled-said = ap (drop 40) (bytes-spelt b valid)
+
+  module _ (low : sample ≤ 15) where
+    abbrev answer : Answer
+    answer = framedBy (c .port) (levels sample) .answer
+
+    returns-answer : stepReturns b sample ≡ answerCode answer
+    unfolding stepReturns stepped moved
+    returns-answer = simp (valid, le-ltb 15 sample low)
+
+    leaves-settings : drop 40 (stepBytes b sample) ≡ settled (settingsAfter (act answer) (settingsOf b))
+    unfolding stepBytes stepped moved chipOf
+    leaves-settings =
+        let bytes : stepBytes b sample ≡ recordOf (stepped c sample .chip) = simp (valid, le-ltb 15 sample low) in
+        let settings : stepped c sample .chip .settings ≡ settingsAfter (act answer) (settingsOf b) = simp (le-ltb 15 sample low) in
+        ap (drop 40) bytes
+        ∙ settings-left (stepped c sample .chip) (stepped-valid c sample (valid-chip b valid) .port .size)
+        ∙ ap settled settings
+
+  -- ---- that takes the ninth bit
+
+  module _ (ninth : NinthBit b sample) where
+    value-small : valueIn b < 256
+    value-small = subst (λ (n : ℕ). valueIn b < 2 ^ n) (ninth .count) (has .small)
+
+    value-code : valueIn b ≡ byte b 35
+    value-code = omega (arith, value-small)
+
+    code-small : byte b 35 < 256
+    code-small = omega (arith, value-small)
+
+    was-low : eqb (byte b 32 % 2) 1 ≡ false
+    unfolding goesWithCs
+    was-low = cs-low _ (subst (λ (n : ℕ). goesWithCs (byte b 32) n ≡ true) (ninth .phase) (has .cs))
+
+    takes : edge (levels (byte b 32)) (levels sample) ≡ Takes (levels sample .bit)
+    takes =
+        edge-takes (levels (byte b 32)) (levels sample) was-low (sym (first-bit sample (ninth .inRange)) ∙ ninth .cs) (ninth .wr) (ninth .rd)
+
+    commanding : c .port .phase ≡ Command 8 (byte b 35)
+    unfolding chipOf phaseRead
+    commanding = simp (ninth .phase, ninth .count, value-code)
+
+    frames : framedBy (c .port) (levels sample) ≡ framed (Command 0 0) Released (decodedAnswer (byteMeaning (byte b 35)) (byte b 35))
+    unfolding framedBy frame taken commandTaken chipOf
+    frames =
+        ap₂ (λ (e : Edge) (phase : Phase). frame e (getD (c .port .memory) (address (c .port .phase)) 0) phase (c .port .line)) takes commanding
+        ∙ ap (framed (Command 0 0) Released) (code-answer (byte b 35) code-small (levels sample .bit))
+
+    told : stepReturns b sample ≡ cond (defined (byte b 35)) 6 7 + 256 * byte b 35
+    told =
+        returns-answer (ninth .inRange) ∙ ap (λ (f : Framed). answerCode (f .answer)) frames
+        ∙ code-told (byteMeaning (byte b 35)) (byte b 35)
+        ∙ ap (λ (t : Bool). cond t 6 7 + 256 * byte b 35) (sym (defined-same (byte b 35) code-small))
+
+    obeyed : drop 40 (stepBytes b sample) ≡ drop 40 (effectOf (byte b 35) b)
+    obeyed =
+        leaves-settings (ninth .inRange)
+        ∙ ap (λ (f : Framed). settled (settingsAfter (act (f .answer)) (settingsOf b))) frames
+        ∙ ap settled (code-obeyed (byte b 35) code-small (byteMeaning (byte b 35)) (settingsOf b) refl)
+        ∙ sym (effect-same b (settingsOf b) (byte b 35) code-small)
+        ∙ ap (λ (l : List ℕ). drop 40 (effectOf (byte b 35) l)) (sym (bytes-spelt b valid))
+
+  -- ---- that takes no ninth bit
+
+  same : FrameSame (byte b 33) (byte b 34) (valueIn b) (byte b 37) (byte b 38) (c .port .phase)
+  unfolding chipOf
+  same =
+      frame-same (byte b 32) (byte b 34) (valueIn b) (byte b 37) (byte b 38) (byte b 39) (byte b 33) (within b (valid-has b valid) 33 (omega arith)) has
+
+  is-ninth : sample ≤ 15 → (bit : Bool) → edge (levels (byte b 32)) (levels sample) ≡ Takes bit → phaseNumber (c .port .phase) ≡ 6
+      → 8 ≤ unfinished (c .port .phase) → NinthBit b sample
+  is-ninth low bit e code eight =
+      let each = takes-only (levels (byte b 32)) (levels sample) bit e in
+      let six : byte b 33 ≡ 6 = sym (same .code-same) ∙ code in
+      let most : byte b 34 ≤ 8 = subst (λ (n : ℕ). byte b 34 ≤ getD mostBits n 0) six (has .most) in
+      record {
+        inRange = low;
+        phase = six;
+        count = omega (arith, most, eight, same .count-same);
+        cs = first-bit sample low ∙ each .0;
+        wr = each .1;
+        rd = each .2;
+      }
+
+  kept : (NinthBit b sample → ⊥) → drop 40 (stepBytes b sample) ≡ drop 40 b
+  unfolding stepBytes chipOf framedBy
+  kept never = by (ltb 15 sample) refl
+    where
+      by : (above : Bool) → ltb 15 sample ≡ above → drop 40 (stepBytes b sample) ≡ drop 40 b
+      by true e = simp (valid, e)
+      by false e =
+          let low = ltb-false 15 sample e in
+          leaves-settings low
+          ∙ ap settled (frame-keeps (edge (levels (byte b 32)) (levels sample)) (getD (c .port .memory) (address (c .port .phase)) 0) (c .port .phase) (c .port .line) (settingsOf b)
+          (λ bit z code eight. never (is-ninth low bit z code eight)))
+          ∙ sym settled-said
+
+pub commands-of-bytes : CommandsOfBytes
+commands-of-bytes =
+    record {
+      steps = λ b sample valid. record { answer = told b sample valid; effect = obeyed b sample valid; none = kept b sample valid };
+      undefined = refl;
+    }

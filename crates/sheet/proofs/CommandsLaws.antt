@@ -1,0 +1,102 @@
+-- Each code's effect on the bytes is its meaning's effect on the settings: one computed test of them all but the few whose
+-- effect goes by a source. Assumes nothing.
+use mathlib.Core.Path.{_≡_, refl, sym}
+use mathlib.Core.Bool.{Bool, true, false, cond, not}
+use mathlib.Core.List.{List}
+use Prim.Native.Nat.{ℕ, zero, suc, _+_, _*_, _/_, _%_, _≤_, _<_}
+use native.Mathlib.Omega.{arith}
+use native.Mathlib.Nat.{add-zero}
+use lib.ListN.{drop}
+use borrow.Author.Tests.{le-ltb}
+use Rattle.ground.specs.Bits.{bitNumber}
+use Rattle.ground.specs.Values.{agree}
+use Rattle.commands.specs.declared.Decoded.{Decoded}
+use Rattle.commands.specs.declared.Decoded.the-variants.{Undefined, Means}
+use Rattle.commands.specs.Commands.{byteMeaning, codeMeaning, undefined}
+use Rattle.clock.specs.declared.Source.{Source}
+use Rattle.clock.specs.declared.Source.the-variants.{Xtal, Rc, Ext}
+use Rattle.rules.specs.declared.IrqSource.{IrqSource}
+use Rattle.rules.specs.declared.IrqSource.the-variants.{Neither, TimeBase, Flag}
+use Rattle.rules.specs.declared.Settings.{Settings}
+use Rattle.rules.specs.Effects.{effect}
+use Rattle.rules.specs.Settings.{sourceTo, irqSourceTo}
+use Rattle.frames.specs.Frames.{more, commandAnswer, decodedAnswer}
+use Rattle.frames.specs.Answers.{act}
+use Rattle.chip.specs.Chip.{obeyedAs, settingsAfter}
+use Rattle.place.specs.Place.{answerCode}
+use Rattle.sheet.specs.Commands.{defined, effectOf}
+use Rattle.sheet.proofs.BytesLaws.{spelt, settled}
+
+-- ---- the effect of a code
+
+module _ (b : List ℕ) where
+  abbrev on-bytes : Settings → ℕ → List ℕ
+  on-bytes s code = drop 40 (effectOf code (spelt b s))
+
+  abbrev on-settings : Settings → ℕ → List ℕ
+  on-settings s code = settled (obeyedAs (byteMeaning code) s)
+
+  -- the three codes whose effect goes by a source
+  sys-dis : (s : Settings) (source : Source) → on-bytes (sourceTo source s) 0x00 ≡ on-settings (sourceTo source s) 0x00
+  unfolding byteMeaning effect obeyedAs
+  sys-dis s Xtal = refl
+  sys-dis s Rc = refl
+  sys-dis s Ext = refl
+
+  timer-dis : (s : Settings) (irq : IrqSource) → on-bytes (irqSourceTo irq s) 0x04 ≡ on-settings (irqSourceTo irq s) 0x04
+  unfolding byteMeaning effect obeyedAs
+  timer-dis s Neither = refl
+  timer-dis s TimeBase = refl
+  timer-dis s Flag = refl
+
+  wdt-dis : (s : Settings) (irq : IrqSource) → on-bytes (irqSourceTo irq s) 0x05 ≡ on-settings (irqSourceTo irq s) 0x05
+  unfolding byteMeaning effect obeyedAs
+  wdt-dis s Neither = refl
+  wdt-dis s TimeBase = refl
+  wdt-dis s Flag = refl
+
+  pub effect-same : (s : Settings) (code : ℕ) → code < 256 → drop 40 (effectOf code (spelt b s)) ≡ settled (obeyedAs (byteMeaning code) s)
+  unfolding byteMeaning effect obeyedAs
+  effect-same s zero h = sys-dis s (s .system .source)
+  effect-same s (suc zero) h = refl
+  effect-same s (suc (suc zero)) h = refl
+  effect-same s (suc (suc (suc zero))) h = refl
+  effect-same s (suc (suc (suc (suc zero)))) h = timer-dis s (s .irq .source)
+  effect-same s (suc (suc (suc (suc (suc zero))))) h = wdt-dis s (s .irq .source)
+  effect-same s (suc (suc (suc (suc (suc (suc k)))))) h =
+      agree (λ (n : ℕ). on-bytes s (suc (suc (suc (suc (suc (suc n))))))) (λ (n : ℕ). on-settings s (suc (suc (suc (suc (suc (suc n)))))))
+      250 refl k (omega arith)
+
+-- the codes that the table defines are those that have a meaning
+pub defined-same : (code : ℕ) → code < 256 → defined code ≡ not (undefined (byteMeaning code))
+unfolding byteMeaning
+defined-same code h = agree defined (λ (n : ℕ). not (undefined (byteMeaning n))) 256 refl code h
+
+-- ---- what it is answered, and what it then does to the settings
+
+bit-small : (bit : Bool) → bitNumber bit ≤ 1
+bit-small true = omega arith
+bit-small false = omega arith
+
+module _ (code : ℕ) (small : code < 256) where
+  -- the ninth bit is ignored
+  pub code-answer : (bit : Bool) → commandAnswer (more code bit) ≡ decodedAnswer (byteMeaning code) code
+  unfolding commandAnswer codeMeaning
+  code-answer bit =
+      let half : more code bit / 2 ≡ code = omega (arith, bit-small bit) in
+      let within : more code bit ≤ 511 = omega (arith, bit-small bit) in
+      let same : code % 256 ≡ code = omega arith in
+      simp (half, le-ltb 511 (more code bit) within, same)
+
+  pub code-obeyed : (decoded : Decoded) (s : Settings) → decoded ≡ byteMeaning code
+      → settingsAfter (act (decodedAnswer decoded code)) s ≡ obeyedAs decoded s
+  unfolding settingsAfter obeyedAs codeMeaning
+  code-obeyed Undefined s e = refl
+  code-obeyed (Means command) s e =
+      let half : 2 * code / 2 ≡ code = omega arith in
+      simp (le-ltb 511 (2 * code) (omega arith), half, sym e)
+
+pub code-told : (decoded : Decoded) (code : ℕ) → answerCode (decodedAnswer decoded code) ≡ cond (not (undefined decoded)) 6 7 + 256 * code
+unfolding answerCode
+code-told Undefined code = add-zero (7 + 256 * code)
+code-told (Means command) code = add-zero (6 + 256 * code)

@@ -1,0 +1,102 @@
+-- A tick of the bytes is a tick of the settings that they say, counter by counter. Assumes nothing.
+use mathlib.Core.Path.{_≡_, _∙_, refl, ap}
+use mathlib.Core.Bool.{Bool, true, false, cond, _||_}
+use mathlib.Core.List.{List}
+use Prim.Native.Nat.{ℕ, _+_, _%_}
+use lib.Dec.{eqb}
+use lib.ListN.{set}
+use Rattle.clock.specs.declared.Source.{Source}
+use Rattle.clock.specs.declared.Source.the-variants.{Xtal, Rc, Ext}
+use Rattle.clock.specs.declared.Watchdog.{Watchdog}
+use Rattle.clock.specs.declared.Timer.{Timer}
+use Rattle.clock.specs.Ticks.{prescalerStepped, tonerStepped, dividerStepped, baseStepped, watchdogStepped, due, timerStepped, baseTicked, prescaledTick, countersTicked}
+use Rattle.rules.specs.declared.Settings.{Settings}
+use Rattle.rules.specs.Numbers.{sourceNumber}
+use Rattle.rules.specs.Settings.{timerTo, countersTo}
+use Rattle.rules.specs.Ticks.{running, ticked}
+use Rattle.state.proofs.CodesLaws.{bit-back}
+use Rattle.sheet.specs.Ticks.{wSteps, bSteps, dSteps, baseTick, clockTick, tick}
+use Rattle.sheet.proofs.BytesLaws.{spelt, runs-running}
+
+-- settings in which d, b and w are these
+abbrev timed : Settings → ℕ → ℕ → Watchdog → Settings
+timed s d b w = timerTo (record { divider = record { count = d }; base = record { count = b }; watchdog = w }) s
+
+module _ (bytes : List ℕ) where
+  w-steps : (s : Settings) (d b : ℕ) (w : Watchdog) → wSteps (spelt bytes (timed s d b w)) ≡ spelt bytes (timed s d b (watchdogStepped w))
+  w-steps s d b w = by (eqb ((w .count + 1) % 4) 0)
+    where
+      by : (t : Bool)
+          → cond t (set (spelt bytes (timed s d b (record { count = (w .count + 1) % 4; flag = w .flag }))) 51 1)
+          (spelt bytes (timed s d b (record { count = (w .count + 1) % 4; flag = w .flag })))
+          ≡ spelt bytes (timed s d b (record { count = (w .count + 1) % 4; flag = t || w .flag }))
+      by true = refl
+      by false = refl
+
+  b-steps : (s : Settings) (d b : ℕ) (w : Watchdog)
+      → bSteps (spelt bytes (timed s d b w))
+      ≡ spelt bytes (timed s d ((b + 1) % 256) (cond (eqb ((b + 1) % 256) 0) (watchdogStepped w) w))
+  b-steps s d b w = by (eqb ((b + 1) % 256) 0)
+    where
+      by : (t : Bool)
+          → cond t (wSteps (spelt bytes (timed s d ((b + 1) % 256) w))) (spelt bytes (timed s d ((b + 1) % 256) w))
+          ≡ spelt bytes (timed s d ((b + 1) % 256) (cond t (watchdogStepped w) w))
+      by true = w-steps s d ((b + 1) % 256) w
+      by false = refl
+
+  d-steps : (s : Settings) → dSteps (spelt bytes s) ≡ spelt bytes (timerTo (timerStepped (s .base .rate) (s .counters .timer)) s)
+  unfolding timerStepped due
+  d-steps s = by (s .counters .timer) (due (s .base .rate) ((s .counters .timer .divider .count + 1) % 128))
+    where
+      by : (x : Timer) (t : Bool)
+          → cond t (bSteps (spelt bytes (timed s ((x .divider .count + 1) % 128) (x .base .count) (x .watchdog))))
+          (spelt bytes (timed s ((x .divider .count + 1) % 128) (x .base .count) (x .watchdog)))
+          ≡ spelt bytes (timerTo (cond t
+          (record { divider = dividerStepped (x .divider); base = baseStepped (x .base); watchdog = cond (eqb ((x .base .count + 1) % 256) 0) (watchdogStepped (x .watchdog)) (x .watchdog) })
+          (record { divider = dividerStepped (x .divider); base = x .base; watchdog = x .watchdog })) s)
+      by x true = b-steps s ((x .divider .count + 1) % 128) (x .base .count) (x .watchdog)
+      by x false = refl
+
+  base-tick : (s : Settings) → baseTick (spelt bytes s) ≡ spelt bytes (countersTo (baseTicked (s .base .on) (s .base .rate) (s .counters)) s)
+  unfolding baseTicked
+  base-tick s = ap (λ (t : Bool). cond t (dSteps (spelt bytes q)) (spelt bytes q)) (bit-back (s .base .on)) ∙ by (s .base .on)
+    where
+      q : Settings
+      q = countersTo (record { prescaler = s .counters .prescaler; toner = tonerStepped (s .counters .toner); timer = s .counters .timer }) s
+
+      by : (t : Bool) → cond t (dSteps (spelt bytes q)) (spelt bytes q)
+          ≡ spelt bytes (timerTo (cond t (timerStepped (s .base .rate) (s .counters .timer)) (s .counters .timer)) q)
+      by true = d-steps q
+      by false = refl
+
+  clock-tick : (s : Settings)
+      → clockTick (spelt bytes s) ≡ spelt bytes (countersTo (countersTicked (s .system .source) (s .base .on) (s .base .rate) (s .counters)) s)
+  unfolding countersTicked prescaledTick
+  clock-tick s = by (s .system .source)
+    where
+      p : Settings
+      p = countersTo (record { prescaler = prescalerStepped (s .counters .prescaler); toner = s .counters .toner; timer = s .counters .timer }) s
+
+      prescaled : (t : Bool) → cond t (baseTick (spelt bytes p)) (spelt bytes p)
+          ≡ spelt bytes (countersTo (cond t (baseTicked (p .base .on) (p .base .rate) (p .counters)) (p .counters)) s)
+      prescaled true = base-tick p
+      prescaled false = refl
+
+      turn : Bool
+      turn = eqb (p .counters .prescaler .count) 0
+
+      by : (source : Source)
+          → cond (eqb (sourceNumber source) 0) (baseTick (spelt bytes s)) (cond turn (baseTick (spelt bytes p)) (spelt bytes p))
+          ≡ spelt bytes (countersTo (countersTicked source (s .base .on) (s .base .rate) (s .counters)) s)
+      by Xtal = base-tick s
+      by Rc = prescaled turn
+      by Ext = prescaled turn
+
+  pub tick-ticks : (s : Settings) → tick (spelt bytes s) ≡ spelt bytes (ticked s)
+  unfolding ticked
+  tick-ticks s = ap (λ (t : Bool). cond t (clockTick (spelt bytes s)) (spelt bytes s)) (runs-running bytes s) ∙ by (running s)
+    where
+      by : (t : Bool) → cond t (clockTick (spelt bytes s)) (spelt bytes s)
+          ≡ spelt bytes (cond t (countersTo (countersTicked (s .system .source) (s .base .on) (s .base .rate) (s .counters)) s) s)
+      by true = clock-tick s
+      by false = refl
