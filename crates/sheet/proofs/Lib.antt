@@ -1,1 +1,4 @@
 pub mod BytesLaws
+pub mod Frames
+pub mod Samples
+pub mod SamplesLaws
