@@ -1,14 +1,13 @@
 -- What a WR rise and an RD fall make of a valid record, phase by phase: what the frame's rule makes of the phase that byte 33
 -- says is written as the bytes of the statement. Assumes nothing.
 use mathlib.Core.Path.{_≡_, _∙_, refl, sym, ap}
-use mathlib.Core.Bool.{Bool, true, false, cond}
-use mathlib.Core.List.{List, [], _∷_, _++_}
-use mathlib.Core.Logic.{_⊎_, inl, inr}
+use mathlib.Core.Bool.{true}
+use mathlib.Core.List.{List}
+use mathlib.Core.Logic.{inl, inr, ⊎-elim}
 use Prim.Native.Nat.{ℕ, zero, suc, _+_, _*_, _/_, _%_, _≤_, _<_}
 use native.Mathlib.Nat.{add-zero, mod-eq-of-lt, lt-of-lt-of-le}
 use native.Mathlib.Omega.{arith}
-use lib.Dec.{eqb, ltb}
-use lib.ListN.{getD, take, replicate}
+use lib.ListN.{getD, take}
 use lib.Pow.{pow-mono}
 use lib.Seq.{getD-take}
 use borrow.Author.Tests.{lt-ltb}
@@ -18,67 +17,24 @@ use Rattle.commands.specs.declared.Decoded.{Decoded}
 use Rattle.commands.specs.declared.Decoded.the-variants.{Undefined, Means}
 use Rattle.commands.specs.Commands.{codeMeaning}
 use Rattle.frames.specs.declared.Phase.{Phase}
-use Rattle.frames.specs.declared.Phase.the-variants.{Idle, Ident, ReadTo, WriteTo, Reading, Writing, Command, Dead}
-use Rattle.frames.specs.declared.Line.{Line}
+use Rattle.frames.specs.declared.Phase.the-variants.{Ident, ReadTo, WriteTo, Reading, Writing, Command, Dead}
 use Rattle.frames.specs.declared.Line.the-variants.{Released, Driven}
-use Rattle.frames.specs.declared.Answer.the-variants.{Stored, Obeyed, Passed, Stray, Unknown}
-use Rattle.frames.specs.declared.Act.the-variants.{Keep}
+use Rattle.frames.specs.declared.Answer.the-variants.{Stored, Obeyed, Passed, Stray}
 use Rattle.frames.specs.declared.Edge.the-variants as edges
-use Rattle.frames.specs.declared.Framed.{Framed}
 use Rattle.frames.specs.Samples.{levels, edge}
 use Rattle.frames.specs.Frames as model
 use Rattle.frames.specs.Frames.{frame, framed, address}
-use Rattle.frames.specs.Answers.{act, unfinished, lineNumber}
+use Rattle.frames.specs.Answers.{unfinished}
 use Rattle.chip.specs.Chip.{memoryAfter, settingsAfter, framedBy}
 use Rattle.place.specs.Place.{answerCode}
 use Rattle.state.specs.FrameCodes.{phaseRead, phaseNumber, valueOf, positionOf}
-use Rattle.state.specs.Record.{recordValid}
+use Rattle.state.specs.Record.{recordValid, chipOf}
 use Rattle.state.proofs.FramesLaws.{frame-has}
 use Rattle.state.proofs.TripLaws.{RecordHas, valid-has, within}
-use Rattle.simulator.specs.Simulator.{stepReturns, stepBytes}
 use Rattle.sheet.specs.Bytes.{byte}
-use Rattle.sheet.specs.Frames.{OnlyLevels, Leaves, due, Offers, bits, withBit, beforeLast, identified, nibbleOf, Takes}
-use Rattle.sheet.proofs.SamplesLaws.{frameLeft, c, phase-at, code-said, low-said, high-said, address-said, position-said, tells, stores, leaves, port-left, only, framed-by}
-
--- after D3 the address steps
-read-frame : (at position : ℕ) (line : Line) → position ≤ 3
-    → frameLeft (cond (ltb position 3) (Reading at (position + 1)) (Reading (model.next at) 0)) line
-    ≡ 4 ∷ 0 ∷ 0 ∷ 0 ∷ cond (eqb position 3) ((at + 1) % 32) at ∷ (position + 1) % 4 ∷ lineNumber line ∷ []
-read-frame at zero line h = refl
-read-frame at (suc zero) line h = refl
-read-frame at (suc (suc zero)) line h = refl
-read-frame at (suc (suc (suc zero))) line h = refl
-read-frame at (suc (suc (suc (suc position)))) line h = let no : ⊥ = omega arith in absurd no
-
--- outside reading and writing a fall is stray, in a read frame and in a dead one a rise
-stray-fall : (nibble : ℕ) (phase : Phase) (line : Line) → (phaseNumber phase ≡ 4 → ⊥) → (phaseNumber phase ≡ 5 → ⊥)
-    → model.offered nibble phase line ≡ framed phase line Stray
-unfolding model.offered
-stray-fall nibble Idle line four five = refl
-stray-fall nibble (Ident count value) line four five = refl
-stray-fall nibble (ReadTo count value) line four five = refl
-stray-fall nibble (WriteTo count value) line four five = refl
-stray-fall nibble (Reading at position) line four five = absurd (four refl)
-stray-fall nibble (Writing count value at position) line four five = absurd (five refl)
-stray-fall nibble (Command count value) line four five = refl
-stray-fall nibble Dead line four five = refl
-
--- what the third bit of an ID leads to
-abbrev Made : Framed → ℕ → Type 0
-Made f phase =
-    (act (f .answer) ≡ Keep) × (answerCode (f .answer) ≡ cond (eqb phase 7) 10 4) × (frameLeft (f .phase) (f .line) ≡ phase ∷ replicate 6 0)
-
-ident-made : (id : ℕ) → Made (model.identified id) (identified id)
-unfolding model.identified answerCode
-ident-made id = by (eqb id 6) (eqb id 5) (eqb id 4)
-  where
-    by : (read write command : Bool)
-        → Made (cond read (model.collected (ReadTo 0 0)) (cond write (model.collected (WriteTo 0 0)) (cond command (model.collected (Command 0 0)) (framed Dead Released Unknown))))
-        (cond read 2 (cond write 3 (cond command 6 7)))
-    by true write command = (refl, refl, refl)
-    by false true command = (refl, refl, refl)
-    by false false true = (refl, refl, refl)
-    by false false false = (refl, refl, refl)
+use Rattle.sheet.specs.Frames.{OnlyLevels, Leaves, due, Offers, bits, withBit, beforeLast, identified, nibbleOf, oneMore, Completes, Takes}
+use Rattle.sheet.proofs.FramesLaws.{frameLeft, phase-at, code-said, low-said, high-said, address-said, position-said, read-frame, stray-fall, ident-made}
+use Rattle.sheet.proofs.SamplesLaws.{tells, stores, leaves, port-left, only, framed-by}
 
 module _ (b : List ℕ) (valid : recordValid b ≡ true) (s : ℕ) (small : s ≤ 15) where
   has : RecordHas b
@@ -86,7 +42,7 @@ module _ (b : List ℕ) (valid : recordValid b ≡ true) (s : ℕ) (small : s �
 
   -- ---- an RD fall
 
-  module _ (fall : edge (c b valid .port .levels) (levels s) ≡ edges.Offers) where
+  module _ (fall : edge (chipOf b .port .levels) (levels s) ≡ edges.Offers) where
     abbrev nibble : ℕ
     nibble = getD (take 32 b) (byte b 37) 0
 
@@ -112,17 +68,17 @@ module _ (b : List ℕ) (valid : recordValid b ≡ true) (s : ℕ) (small : s �
               (framed-by b valid s small edges.Offers fall writes now) _ _ refl
               (rw due-said) (rw (due-said, ← low-said b valid writes now, ← high-said b valid writes now));
           stray = λ four five.
-              let now = c b valid .port .phase in
+              let now = chipOf b .port .phase in
               let code = code-said b valid now refl in
               only b valid s small Stray 9
               (framed-by b valid s small edges.Offers fall now refl
-              ∙ stray-fall (getD (take 32 b) (address now) 0) now (c b valid .port .line) (λ e. four (code ∙ e)) (λ e. five (code ∙ e)))
+              ∙ stray-fall (getD (take 32 b) (address now) 0) now (chipOf b .port .line) (λ e. four (code ∙ e)) (λ e. five (code ∙ e)))
               refl refl;
         }
 
   -- ---- a WR rise
 
-  module _ (rise : edge (c b valid .port .levels) (levels s) ≡ edges.Takes (bitAt 3 s)) where
+  module _ (rise : edge (chipOf b .port .levels) (levels s) ≡ edges.Takes (bitAt 3 s)) where
     -- eight unfinished bits are the most, and one more fits into nine
     bits-small : bits b < 256
     bits-small = lt-of-lt-of-le (frame-has _ _ _ _ _ _ _ (has .frame) .small) (pow-mono (within b has 34 (omega arith)))
@@ -134,35 +90,35 @@ module _ (b : List ℕ) (valid : recordValid b ≡ true) (s : ℕ) (small : s �
     upper-eight : withBit b s / 2 % 256 ≡ bits b
     upper-eight = omega (arith, bits-small)
 
-    module _ (phase : Phase) (now : c b valid .port .phase ≡ phase) where
-      taken-by : framedBy (c b valid .port) (levels s) ≡ model.taken (bitAt 3 s) phase (c b valid .port .line)
+    module _ (phase : Phase) (now : chipOf b .port .phase ≡ phase) where
+      taken-by : framedBy (chipOf b .port) (levels s) ≡ model.taken (bitAt 3 s) phase (chipOf b .port .line)
       unfolding frame
       taken-by = framed-by b valid s small (edges.Takes (bitAt 3 s)) rise phase now
 
-      stray-rise : model.taken (bitAt 3 s) phase (c b valid .port .line) ≡ framed phase (c b valid .port .line) Stray
+      stray-rise : model.taken (bitAt 3 s) phase (chipOf b .port .line) ≡ framed phase (chipOf b .port .line) Stray
           → OnlyLevels b s 9
       unfolding answerCode
       stray-rise e =
           only b valid s small Stray 9
-          (taken-by ∙ e ∙ ap (λ (p : Phase). framed p (c b valid .port .line) Stray) (sym now)) refl refl
+          (taken-by ∙ e ∙ ap (λ (p : Phase). framed p (chipOf b .port .line) Stray) (sym now)) refl refl
 
       -- a bit taken leads from phase to phase
-      leads : (next : Phase) (frame : List ℕ) → model.taken (bitAt 3 s) phase (c b valid .port .line) ≡ model.collected next
+      leads : (next : Phase) (frame : List ℕ) → model.taken (bitAt 3 s) phase (chipOf b .port .line) ≡ model.collected next
           → frameLeft next Released ≡ frame → Leaves b s 4 frame
       unfolding answerCode
       leads next frame e bytes = leaves b valid s small (model.collected next) (taken-by ∙ e) 4 frame refl refl bytes
 
       -- or leaves it in its phase
-      adds : (next : Phase) → model.taken (bitAt 3 s) phase (c b valid .port .line) ≡ model.collected next
+      adds : (next : Phase) → model.taken (bitAt 3 s) phase (chipOf b .port .line) ≡ model.collected next
           → phaseNumber next ≡ phaseNumber phase → unfinished next ≡ byte b 34 + 1 → valueOf next ≡ withBit b s
           → address next ≡ address phase → positionOf next ≡ positionOf phase
-          → Leaves b s 4 (byte b 33 ∷ (byte b 34 + 1) ∷ withBit b s % 256 ∷ withBit b s / 256 ∷ byte b 37 ∷ byte b 38 ∷ 0 ∷ [])
+          → Leaves b s 4 (oneMore b s)
       adds next e code count value at position =
           leads next _ e
           (rw (code, count, value, at, position, code-said b valid phase now, address-said b valid phase now, position-said b valid phase now))
 
     more-in : (code : ℕ) → byte b 33 ≡ code → byte b 34 < beforeLast code
-        → Leaves b s 4 (byte b 33 ∷ (byte b 34 + 1) ∷ withBit b s % 256 ∷ withBit b s / 256 ∷ byte b 37 ∷ byte b 38 ∷ 0 ∷ [])
+        → Leaves b s 4 (oneMore b s)
     unfolding phaseRead model.taken model.identTaken model.readToTaken model.writeToTaken model.nibbleTaken model.commandTaken
     more-in zero e h = let no : ⊥ = omega arith in absurd no
     more-in (suc zero) e h =
@@ -185,14 +141,8 @@ module _ (b : List ℕ) (valid : recordValid b ≡ true) (s : ℕ) (small : s �
     more-in (suc (suc (suc (suc (suc (suc (suc zero))))))) e h = let no : ⊥ = omega arith in absurd no
     more-in (suc (suc (suc (suc (suc (suc (suc (suc code)))))))) e h = let no : ⊥ = omega arith in absurd no
 
-    strays : (byte b 33 ≡ 4) ⊎ (byte b 33 ≡ 7) → OnlyLevels b s 9
-    unfolding phaseRead model.taken
-    strays (inl e) = stray-rise (Reading (byte b 37) (byte b 38)) (phase-at b valid 4 e) refl
-    strays (inr e) = stray-rise Dead (phase-at b valid 7 e) refl
-
-    ninth : (decoded : Decoded) → framedBy (c b valid .port) (levels s) ≡ framed (Command 0 0) Released (model.decodedAnswer decoded (bits b))
-        → ((stepReturns b s ≡ 6 + 256 * bits b) × (take 40 (stepBytes b s) ≡ take 32 b ++ s ∷ 6 ∷ replicate 6 0))
-        ⊎ Leaves b s (7 + 256 * bits b) (6 ∷ replicate 6 0)
+    ninth : (decoded : Decoded) → framedBy (chipOf b .port) (levels s) ≡ framed (Command 0 0) Released (model.decodedAnswer decoded (bits b))
+        → Completes b s
     unfolding answerCode memoryAfter
     ninth (Means command) e = inl (
       tells b valid s small (framed (Command 0 0) Released (Obeyed (bits b))) e ∙ add-zero (6 + 256 * bits b),
@@ -205,7 +155,9 @@ module _ (b : List ℕ) (valid : recordValid b ≡ true) (s : ℕ) (small : s �
     unfolding phaseRead model.taken model.identTaken model.readToTaken model.writeToTaken model.nibbleTaken model.commandTaken model.commandAnswer answerCode memoryAfter settingsAfter
     takes =
         record {
-          stray = strays;
+          stray =
+              ⊎-elim (λ e. stray-rise (Reading (byte b 37) (byte b 38)) (phase-at b valid 4 e) refl)
+              (λ e. stray-rise Dead (phase-at b valid 7 e) refl);
           more = λ h. more-in (byte b 33) refl h;
           identifies = λ e count.
               let made = ident-made (withBit b s) in

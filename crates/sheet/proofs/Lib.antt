@@ -1,4 +1,5 @@
 pub mod BytesLaws
 pub mod Frames
+pub mod FramesLaws
 pub mod Samples
 pub mod SamplesLaws

@@ -2,11 +2,10 @@
 -- Frames.antt. Assumes nothing.
 use mathlib.Core.Path.{_≡_, _∙_, refl, sym, ap, ap₂, subst}
 use mathlib.Core.Bool.{Bool, true, false, cond, not}
-use mathlib.Core.List.{List, _∷_}
+use mathlib.Core.List.{List}
 use Prim.Native.Nat.{ℕ, _%_, _≤_}
 use native.Mathlib.Omega.{arith}
 use lib.Dec.{eqb}
-use lib.ListN.{replicate}
 use borrow.Author.Tests.{lt-ltb, ne-eqb}
 use Rattle.ground.specs.Bits.{bitAt}
 use Rattle.frames.specs.declared.Act.the-variants.{Keep}
@@ -30,10 +29,11 @@ use Rattle.state.proofs.FramesLaws.{frame-has}
 use Rattle.state.proofs.TripLaws.{valid-has}
 use Rattle.simulator.specs.Simulator.{stepReturns, stepBytes}
 use Rattle.sheet.specs.Bytes.{byte}
-use Rattle.sheet.specs.Frames.{OnlyLevels, Leaves}
+use Rattle.sheet.specs.Frames.{OnlyLevels}
 use Rattle.sheet.specs.Samples.{Clocked, Sampled, SampleRules}
 use Rattle.sheet.proofs.Frames.{takes, offers}
-use Rattle.sheet.proofs.SamplesLaws.{c, phase-at, count-said, leaves, only, framed-by, levels-stored, clocked-edge}
+use Rattle.sheet.proofs.FramesLaws.{phase-at, count-said}
+use Rattle.sheet.proofs.SamplesLaws.{leaves, only, framed-by, levels-stored, clocked-edge}
 
 -- CS is high exactly where there is no frame
 same-test : (high none : Bool) → cond high none (not none) ≡ true → high ≡ none
@@ -50,26 +50,26 @@ closing false = (refl, refl)
 
 module _ (b : List ℕ) (valid : recordValid b ≡ true) (s : ℕ) (small : s ≤ 15) where
   abbrev phase : Phase
-  phase = c b valid .port .phase
+  phase = chipOf b .port .phase
 
   abbrev line : Line
-  line = c b valid .port .line
+  line = chipOf b .port .line
 
   cs-said : eqb (byte b 32 % 2) 1 ≡ eqb (byte b 33) 0
   unfolding goesWithCs
   cs-said = same-test _ _ (frame-has _ _ _ _ _ _ _ (valid-has b valid .frame) .cs)
 
   -- an edge that leaves the frame
-  stays : (answer : Answer) (sort : Edge) (returned : ℕ) → edge (c b valid .port .levels) (levels s) ≡ sort
+  stays : (answer : Answer) (sort : Edge) (returned : ℕ) → edge (chipOf b .port .levels) (levels s) ≡ sort
       → ((nibble : ℕ) → frame sort nibble phase line ≡ framed phase line answer) → act answer ≡ Keep → answerCode answer ≡ returned
       → OnlyLevels b s returned
   stays answer sort returned e same keep told =
       only b valid s small answer returned (framed-by b valid s small sort e phase refl ∙ same _) keep told
 
-  in-frame : (rise fall : Bool) → edge (c b valid .port .levels) (levels s) ≡ clocked rise fall (bitAt 3 s) → Clocked b s rise fall
+  in-frame : (rise fall : Bool) → edge (chipOf b .port .levels) (levels s) ≡ clocked rise fall (bitAt 3 s) → Clocked b s rise fall
   unfolding frame answerCode
   in-frame rise fall e =
-      let at : (x y : Bool) → rise ≡ x → fall ≡ y → edge (c b valid .port .levels) (levels s) ≡ clocked x y (bitAt 3 s) =
+      let at : (x y : Bool) → rise ≡ x → fall ≡ y → edge (chipOf b .port .levels) (levels s) ≡ clocked x y (bitAt 3 s) =
       λ x y r f. e ∙ ap₂ (λ (x : Bool) (y : Bool). clocked x y (bitAt 3 s)) r f in
       record {
         clash = λ r f. stays Clash edges.Clashes 11 (at true true r f) (λ nibble. refl) refl refl;
@@ -78,36 +78,25 @@ module _ (b : List ℕ) (valid : recordValid b ≡ true) (s : ℕ) (small : s �
         quiet = λ r f. stays Nothing edges.Quiet 0 (at false false r f) (λ nibble. refl) refl refl;
       }
 
-  rests : s % 2 ≡ 1 → byte b 33 ≡ 0 → OnlyLevels b s 0
-  unfolding frame phaseRead answerCode chipOf
-  rests high none =
-      let before : eqb (byte b 32 % 2) 1 ≡ true = cs-said ∙ rw none in
-      let idle : phase ≡ Idle = phase-at b valid 0 none in
-      let released : line ≡ Released = subst (FrameValid (c b valid .port .levels .cs) line) idle (valid-chip b valid .port .frame) .1 in
-      stays Nothing edges.Rests 0 (rw (high, before)) (λ nibble. ap₂ (λ (p : Phase) (l : Line). framed p l Nothing) (sym idle) (sym released))
-      refl refl
-
-  closes : s % 2 ≡ 1 → 1 ≤ byte b 33 → Leaves b s (cond (eqb (byte b 34) 0) 2 3) (replicate 7 0)
-  unfolding frame closed chipOf
-  closes high some =
-      let before : eqb (byte b 32 % 2) 1 ≡ false = cs-said ∙ ne-eqb (byte b 33) 0 (λ z. omega (arith, z)) in
-      let told = closing (eqb (unfinished phase) 0) in
-      leaves b valid s small (closed phase) (framed-by b valid s small edges.Closes (rw (high, before)) phase refl) _ _ (told .0)
-      (told .1 ∙ ap (λ (count : ℕ). cond (eqb count 0) 2 3) (sym (count-said b valid phase refl))) refl
-
-  opens : s % 2 ≡ 0 → byte b 32 % 2 ≡ 1 → Leaves b s 1 (1 ∷ replicate 6 0)
-  unfolding frame answerCode chipOf
-  opens low before =
-      leaves b valid s small (framed (Ident 0 0) Released Opened)
-      (framed-by b valid s small edges.Opens (rw (low, before)) phase refl) _ _ refl refl refl
-
   sampled : Sampled b s
+  unfolding frame closed phaseRead answerCode chipOf
   sampled =
       record {
         levels = levels-stored b valid s small;
-        rests = rests;
-        closes = closes;
-        opens = opens;
+        rests = λ high none.
+            let before : eqb (byte b 32 % 2) 1 ≡ true = cs-said ∙ rw none in
+            let idle : phase ≡ Idle = phase-at b valid 0 none in
+            let released : line ≡ Released = subst (FrameValid (chipOf b .port .levels .cs) line) idle (valid-chip b valid .port .frame) .1 in
+            stays Nothing edges.Rests 0 (rw (high, before))
+            (λ nibble. ap₂ (λ (p : Phase) (l : Line). framed p l Nothing) (sym idle) (sym released)) refl refl;
+        closes = λ high some.
+            let before : eqb (byte b 32 % 2) 1 ≡ false = cs-said ∙ ne-eqb (byte b 33) 0 (λ z. omega (arith, z)) in
+            let told = closing (eqb (unfinished phase) 0) in
+            leaves b valid s small (closed phase) (framed-by b valid s small edges.Closes (rw (high, before)) phase refl) _ _ (told .0)
+            (told .1 ∙ ap (λ (count : ℕ). cond (eqb count 0) 2 3) (sym (count-said b valid phase refl))) refl;
+        opens = λ low before.
+            leaves b valid s small (framed (Ident 0 0) Released Opened)
+            (framed-by b valid s small edges.Opens (rw (low, before)) phase refl) _ _ refl refl refl;
         clocked = λ after before. in-frame _ _ (clocked-edge b valid s small after before);
       }
 

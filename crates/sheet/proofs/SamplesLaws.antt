@@ -2,74 +2,47 @@
 -- record says, with the frame's bytes anew and the others as they were. Assumes nothing.
 use mathlib.Core.Path.{_≡_, _∙_, refl, sym, ap}
 use mathlib.Core.Bool.{Bool, true, false, not, _&&_}
-use mathlib.Core.List.{List, [], _∷_, _++_, append-assoc}
-use Prim.Native.Nat.{ℕ, _+_, _/_, _%_, _≤_}
-use lib.ListN.{length, getD, take, drop, set, replicate}
-use lib.Seq.{take-append-add, drop-append-add, getD-append-add, set-at}
+use mathlib.Core.List.{List, _∷_, _++_, append-assoc}
+use Prim.Native.Nat.{ℕ, _%_, _≤_}
+use lib.ListN.{getD, take, replicate, length, drop, set}
+use lib.Seq.{set-at}
 use borrow.Author.Tests.{le-ltb}
 use Rattle.ground.specs.Bits.{bitAt}
+use Rattle.rules.specs.declared.Settings.{Settings}
 use Rattle.frames.specs.declared.Phase.{Phase}
 use Rattle.frames.specs.declared.Line.{Line}
-use Rattle.frames.specs.declared.Answer.{Answer}
 use Rattle.frames.specs.declared.Act.the-variants.{Keep}
-use Rattle.frames.specs.declared.Edge.{Edge}
 use Rattle.frames.specs.declared.Framed.{Framed}
-use Rattle.frames.specs.Samples.{levels, clocked, edge}
-use Rattle.frames.specs.Frames.{framed, address, frame}
-use Rattle.frames.specs.Answers.{act, unfinished, lineNumber}
-use Rattle.rules.specs.declared.Settings.{Settings}
+use Rattle.frames.specs.declared.Answer.{Answer}
+use Rattle.frames.specs.declared.Edge.{Edge}
+use Rattle.frames.specs.Samples.{levels, edge, clocked}
+use Rattle.frames.specs.Frames.{frame, framed, address}
+use Rattle.frames.specs.Answers.{act}
 use Rattle.chip.specs.declared.Chip.{Chip}
 use Rattle.chip.specs.declared.Stepped.{Stepped}
 use Rattle.chip.specs.Chip.{memoryAfter, settingsAfter, framedBy, movedAs, moved, steppedAs, stepped}
 use Rattle.chip.proofs.ValidLaws.{stepped-valid}
 use Rattle.place.specs.Place.{answerCode}
-use Rattle.state.specs.FrameCodes.{linesNumber, phaseRead, phaseIn, phaseNumber, valueOf, positionOf}
-use Rattle.state.specs.Record.{frameBytes, settingsBytes, tailOf, recordOf, recordValid, chipOf}
+use Rattle.state.specs.FrameCodes.{linesNumber}
+use Rattle.state.specs.Record.{recordValid, frameBytes, settingsBytes, tailOf, recordOf, chipOf}
+use Rattle.state.proofs.TripLaws.{trip}
 use Rattle.state.proofs.ChipLaws.{valid-chip}
 use Rattle.state.proofs.CodesLaws.{lines-again}
-use Rattle.state.proofs.TripLaws.{trip}
 use Rattle.simulator.specs.Simulator.{stepReturns, stepBytes}
 use Rattle.sheet.specs.Bytes.{byte}
-use Rattle.sheet.specs.Frames.{OnlyLevels, Stores, Leaves, bits}
+use Rattle.sheet.specs.Frames.{OnlyLevels, Leaves, Stores}
 use Rattle.sheet.specs.Samples.{rises, falls}
+use Rattle.sheet.proofs.FramesLaws.{frameLeft, byte-past, port-bytes, rest-bytes}
 
--- Bytes 33 to 39.
-abbrev pub frameLeft : Phase → Line → List ℕ
-frameLeft phase line =
-    phaseNumber phase ∷ unfinished phase ∷ valueOf phase % 256 ∷ valueOf phase / 256
-    ∷ address phase ∷ positionOf phase ∷ lineNumber line ∷ []
-
+-- a fall the other way round
 swapped : (x y : Bool) → (not y && x) ≡ (x && not y)
 swapped true true = refl
 swapped true false = refl
 swapped false true = refl
 swapped false false = refl
 
--- ---- the parts of a chip's record
-
-module _ (chip : Chip) (size : length (chip .port .memory) ≡ 32) where
-  byte-past : (i : ℕ) → byte (recordOf chip) (32 + i) ≡ getD (tailOf chip) i 0
-  unfolding recordOf
-  byte-past i =
-      ap (λ (n : ℕ). getD (chip .port .memory ++ tailOf chip) (n + i) 0) (sym size)
-      ∙ getD-append-add (chip .port .memory) (tailOf chip) i 0
-
-  port-bytes : take 40 (recordOf chip) ≡ chip .port .memory ++ frameBytes (chip .port)
-  unfolding recordOf tailOf
-  port-bytes =
-      ap (λ (n : ℕ). take (n + 8) (chip .port .memory ++ tailOf chip)) (sym size)
-      ∙ take-append-add (chip .port .memory) (tailOf chip) 8
-
-  rest-bytes : drop 40 (recordOf chip) ≡ settingsBytes (chip .settings) ++ replicate 6 0
-  unfolding recordOf tailOf
-  rest-bytes =
-      ap (λ (n : ℕ). drop (n + 8) (chip .port .memory ++ tailOf chip)) (sym size)
-      ∙ drop-append-add (chip .port .memory) (tailOf chip) 8
-
--- ---- a valid record
-
 module _ (b : List ℕ) (valid : recordValid b ≡ true) where
-  abbrev pub c : Chip
+  abbrev c : Chip
   c = chipOf b
 
   size : length (take 32 b) ≡ 32
@@ -78,41 +51,6 @@ module _ (b : List ℕ) (valid : recordValid b ≡ true) where
 
   rest-same : drop 40 b ≡ settingsBytes (c .settings) ++ replicate 6 0
   rest-same = ap (drop 40) (sym (trip b valid)) ∙ rest-bytes c (valid-chip b valid .port .size)
-
-  -- ---- the frame that bytes 33 to 39 say
-
-  pub phase-at : (code : ℕ) → byte b 33 ≡ code
-      → c .port .phase ≡ phaseIn (phaseRead code (byte b 34) (bits b) (byte b 37) (byte b 38))
-  unfolding chipOf
-  phase-at code e = ap (λ (n : ℕ). phaseIn (phaseRead n (byte b 34) (bits b) (byte b 37) (byte b 38))) e
-
-  module _ (phase : Phase) (e : c .port .phase ≡ phase) where
-    said : (i : ℕ) → byte b (32 + i) ≡ getD (tailOf c) i 0
-    said i = ap (λ (l : List ℕ). byte l (32 + i)) (sym (trip b valid)) ∙ byte-past c (valid-chip b valid .port .size) i
-
-    pub code-said : byte b 33 ≡ phaseNumber phase
-    unfolding tailOf
-    code-said = said 1 ∙ ap phaseNumber e
-
-    pub count-said : byte b 34 ≡ unfinished phase
-    unfolding tailOf
-    count-said = said 2 ∙ ap unfinished e
-
-    pub low-said : byte b 35 ≡ valueOf phase % 256
-    unfolding tailOf
-    low-said = said 3 ∙ ap (λ (p : Phase). valueOf p % 256) e
-
-    pub high-said : byte b 36 ≡ valueOf phase / 256
-    unfolding tailOf
-    high-said = said 4 ∙ ap (λ (p : Phase). valueOf p / 256) e
-
-    pub address-said : byte b 37 ≡ address phase
-    unfolding tailOf
-    address-said = said 5 ∙ ap address e
-
-    pub position-said : byte b 38 ≡ positionOf phase
-    unfolding tailOf
-    position-said = said 6 ∙ ap positionOf e
 
   module _ (s : ℕ) (small : s ≤ 15) where
     -- ---- what a step makes of the frame is what it makes of the record

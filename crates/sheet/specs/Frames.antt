@@ -53,7 +53,7 @@ bits b = byte b 35 + 256 * byte b 36
 abbrev pub withBit : List ℕ → ℕ → ℕ
 withBit b s = 2 * bits b + s / 8 % 2
 
--- The bits that each phase has before its last one: 3 of an ID, 6 of an address, 4 of a nibble, 9 of a command.
+-- How many bits come before the last one of each phase: an ID has 3, an address 6, a nibble 4, a command 9.
 abbrev pub beforeLast : ℕ → ℕ
 beforeLast phase = getD (0 ∷ 2 ∷ 5 ∷ 5 ∷ 0 ∷ 3 ∷ 8 ∷ 0 ∷ []) phase 0
 
@@ -65,12 +65,23 @@ identified id = cond (eqb id 6) 2 (cond (eqb id 5) 3 (cond (eqb id 4) 6 7))
 abbrev pub nibbleOf : ℕ → ℕ
 nibbleOf four = four / 8 % 2 + 2 * (four / 4 % 2) + 4 * (four / 2 % 2) + 8 * (four % 2)
 
+-- One bit more, in the same phase: DATA is released.
+abbrev pub oneMore : List ℕ → ℕ → List ℕ
+oneMore b s =
+    byte b 33 ∷ (byte b 34 + 1) ∷ withBit b s % 256 ∷ withBit b s / 256 ∷ byte b 37 ∷ byte b 38 ∷ 0 ∷ []
+
+-- A command's ninth bit counts for nothing: the eight before it are its code. It is obeyed, or passed over, which changes no
+-- byte from 40 on; another command may follow.
+abbrev pub Completes : List ℕ → ℕ → Type 0
+Completes b s =
+    ((stepReturns b s ≡ 6 + 256 * bits b) × (take 40 (stepBytes b s) ≡ take 32 b ++ s ∷ 6 ∷ replicate 6 0))
+    ⊎ Leaves b s (7 + 256 * bits b) (6 ∷ replicate 6 0)
+
 pub record Takes (b : List ℕ) (s : ℕ) : Type 0 where
   -- in a read frame and in a dead one it is stray
   pub stray : (byte b 33 ≡ 4) ⊎ (byte b 33 ≡ 7) → OnlyLevels b s 9
-  -- a bit that is not the last: one more is unfinished, and DATA is released
-  pub more : byte b 34 < beforeLast (byte b 33) → Leaves b s 4
-      (byte b 33 ∷ (byte b 34 + 1) ∷ withBit b s % 256 ∷ withBit b s / 256 ∷ byte b 37 ∷ byte b 38 ∷ 0 ∷ [])
+  -- a bit that is not the last of its phase
+  pub more : byte b 34 < beforeLast (byte b 33) → Leaves b s 4 (oneMore b s)
   -- the third of an ID
   pub identifies : byte b 33 ≡ 1 → byte b 34 ≡ 2
       → Leaves b s (cond (eqb (identified (withBit b s)) 7) 10 4) (identified (withBit b s) ∷ replicate 6 0)
@@ -81,8 +92,5 @@ pub record Takes (b : List ℕ) (s : ℕ) : Type 0 where
   pub stores : byte b 33 ≡ 5 → byte b 34 ≡ 3
       → Stores b s (5 + 256 * byte b 37 + 65536 * nibbleOf (withBit b s)) (set (take 32 b) (byte b 37) (nibbleOf (withBit b s)))
       (5 ∷ 0 ∷ 0 ∷ 0 ∷ (byte b 37 + 1) % 32 ∷ 0 ∷ 0 ∷ [])
-  -- the ninth of a command, which is ignored: the eight before it are its code, and another command may follow. One that is
-  -- passed over changes no byte from 40 on
-  pub commands : byte b 33 ≡ 6 → byte b 34 ≡ 8
-      → ((stepReturns b s ≡ 6 + 256 * bits b) × (take 40 (stepBytes b s) ≡ take 32 b ++ s ∷ 6 ∷ replicate 6 0))
-      ⊎ Leaves b s (7 + 256 * bits b) (6 ∷ replicate 6 0)
+  -- the ninth of a command
+  pub commands : byte b 33 ≡ 6 → byte b 34 ≡ 8 → Completes b s

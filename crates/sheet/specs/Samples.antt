@@ -12,7 +12,7 @@ use Rattle.simulator.specs.Simulator.{stepReturns, stepBytes}
 use Rattle.sheet.specs.Bytes.{byte}
 use Rattle.sheet.specs.Frames.{OnlyLevels, Leaves, Takes, Offers}
 
--- A line of two levels, WR at 1 and RD at 2, that rises, and one that falls.
+-- Whether a line, WR at 1 or RD at 2, rises or falls from some levels to the next.
 abbrev pub rises : ℕ → ℕ → ℕ → Bool
 rises line before after = not (bitAt line before) && bitAt line after
 
