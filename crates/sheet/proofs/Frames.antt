@@ -70,7 +70,7 @@ module _ (b : List ℕ) (valid : recordValid b ≡ true) (s : ℕ) (small : s �
           stray = λ four five.
               let now = chipOf b .port .phase in
               let code = code-said b valid now refl in
-              only b valid s small Stray 9
+              only b valid s small Stray _
               (framed-by b valid s small edges.Offers fall now refl
               ∙ stray-fall (getD (take 32 b) (address now) 0) now (chipOf b .port .line) (λ e. four (code ∙ e)) (λ e. five (code ∙ e)))
               refl refl;
@@ -99,7 +99,7 @@ module _ (b : List ℕ) (valid : recordValid b ≡ true) (s : ℕ) (small : s �
           → OnlyLevels b s 9
       unfolding answerCode
       stray-rise e =
-          only b valid s small Stray 9
+          only b valid s small Stray _
           (taken-by ∙ e ∙ ap (λ (p : Phase). framed p (chipOf b .port .line) Stray) (sym now)) refl refl
 
       -- a bit taken leads from phase to phase

@@ -72,10 +72,10 @@ module _ (b : List ℕ) (valid : recordValid b ≡ true) (s : ℕ) (small : s �
       let at : (x y : Bool) → rise ≡ x → fall ≡ y → edge (chipOf b .port .levels) (levels s) ≡ clocked x y (bitAt 3 s) =
       λ x y r f. e ∙ ap₂ (λ (x : Bool) (y : Bool). clocked x y (bitAt 3 s)) r f in
       record {
-        clash = λ r f. stays Clash edges.Clashes 11 (at true true r f) (λ nibble. refl) refl refl;
+        clash = λ r f. stays Clash edges.Clashes _ (at true true r f) (λ nibble. refl) refl refl;
         taken = λ r f. takes b valid s small (at true false r f);
         offered = λ r f. offers b valid s small (at false true r f);
-        quiet = λ r f. stays Nothing edges.Quiet 0 (at false false r f) (λ nibble. refl) refl refl;
+        quiet = λ r f. stays Nothing edges.Quiet _ (at false false r f) (λ nibble. refl) refl refl;
       }
 
   sampled : Sampled b s
@@ -87,7 +87,7 @@ module _ (b : List ℕ) (valid : recordValid b ≡ true) (s : ℕ) (small : s �
             let before : eqb (byte b 32 % 2) 1 ≡ true = cs-said ∙ rw none in
             let idle : phase ≡ Idle = phase-at b valid 0 none in
             let released : line ≡ Released = subst (FrameValid (chipOf b .port .levels .cs) line) idle (valid-chip b valid .port .frame) .1 in
-            stays Nothing edges.Rests 0 (rw (high, before))
+            stays Nothing edges.Rests _ (rw (high, before))
             (λ nibble. ap₂ (λ (p : Phase) (l : Line). framed p l Nothing) (sym idle) (sym released)) refl refl;
         closes = λ high some.
             let before : eqb (byte b 32 % 2) 1 ≡ false = cs-said ∙ ne-eqb (byte b 33) 0 (λ z. omega (arith, z)) in
