@@ -1,6 +1,10 @@
 pub mod BytesLaws
 pub mod Commands
 pub mod CommandsLaws
+pub mod Frames
+pub mod FramesLaws
 pub mod NinthBitLaws
+pub mod Samples
+pub mod SamplesLaws
 pub mod Ticks
 pub mod TicksLaws

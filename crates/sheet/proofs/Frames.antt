@@ -1,0 +1,176 @@
+-- What a WR rise and an RD fall make of a valid record, phase by phase: what the frame's rule makes of the phase that byte 33
+-- says is written as the bytes of the statement. Assumes nothing.
+use mathlib.Core.Path.{_≡_, _∙_, refl, sym, ap}
+use mathlib.Core.Bool.{true}
+use mathlib.Core.List.{List}
+use mathlib.Core.Logic.{inl, inr, ⊎-elim}
+use Prim.Native.Nat.{ℕ, zero, suc, _+_, _*_, _/_, _%_, _≤_, _<_}
+use native.Mathlib.Nat.{add-zero, mod-eq-of-lt, lt-of-lt-of-le}
+use native.Mathlib.Omega.{arith}
+use lib.ListN.{getD, take}
+use lib.Pow.{pow-mono}
+use lib.Seq.{getD-take}
+use borrow.Author.Tests.{lt-ltb}
+use Rattle.ground.specs.Bits.{bitAt, bitNumber}
+use Rattle.ground.proofs.BitsLaws.{bitNumber-bitAt}
+use Rattle.commands.specs.declared.Decoded.{Decoded}
+use Rattle.commands.specs.declared.Decoded.the-variants.{Undefined, Means}
+use Rattle.commands.specs.Commands.{codeMeaning}
+use Rattle.frames.specs.declared.Phase.{Phase}
+use Rattle.frames.specs.declared.Phase.the-variants.{Ident, ReadTo, WriteTo, Reading, Writing, Command, Dead}
+use Rattle.frames.specs.declared.Line.the-variants.{Released, Driven}
+use Rattle.frames.specs.declared.Answer.the-variants.{Stored, Obeyed, Passed, Stray}
+use Rattle.frames.specs.declared.Edge.the-variants as edges
+use Rattle.frames.specs.Samples.{levels, edge}
+use Rattle.frames.specs.Frames as model
+use Rattle.frames.specs.Frames.{frame, framed, address}
+use Rattle.frames.specs.Answers.{unfinished}
+use Rattle.chip.specs.Chip.{memoryAfter, settingsAfter, framedBy}
+use Rattle.place.specs.Place.{answerCode}
+use Rattle.state.specs.FrameCodes.{phaseRead, phaseNumber, valueOf, positionOf}
+use Rattle.state.specs.Record.{recordValid, chipOf}
+use Rattle.state.proofs.FramesLaws.{frame-has}
+use Rattle.state.proofs.TripLaws.{RecordHas, valid-has, within}
+use Rattle.sheet.specs.Bytes.{byte}
+use Rattle.sheet.specs.Frames.{OnlyLevels, Leaves, due, Offers, bits, withBit, beforeLast, identified, nibbleOf, oneMore, Completes, Takes}
+use Rattle.sheet.proofs.FramesLaws.{frameLeft, phase-at, code-said, low-said, high-said, address-said, position-said, read-frame, stray-fall, ident-made}
+use Rattle.sheet.proofs.SamplesLaws.{tells, stores, leaves, port-left, only, framed-by}
+
+module _ (b : List ℕ) (valid : recordValid b ≡ true) (s : ℕ) (small : s ≤ 15) where
+  has : RecordHas b
+  has = valid-has b valid
+
+  -- ---- an RD fall
+
+  module _ (fall : edge (chipOf b .port .levels) (levels s) ≡ edges.Offers) where
+    abbrev nibble : ℕ
+    nibble = getD (take 32 b) (byte b 37) 0
+
+    due-said : bitNumber (bitAt (byte b 38) nibble) ≡ due b
+    due-said =
+        ap (λ (n : ℕ). bitNumber (bitAt (byte b 38) n)) (getD-take 32 b (byte b 37) 0 (omega (arith, within b has 37 (omega arith))))
+        ∙ bitNumber-bitAt (byte b 38) (byte b (byte b 37))
+
+    pub offers : Offers b s
+    unfolding frame model.offered model.readOffered phaseRead answerCode
+    offers =
+        record {
+          reading = λ e.
+              leaves b valid s small (model.readOffered nibble (byte b 37) (byte b 38))
+              (framed-by b valid s small edges.Offers fall (Reading (byte b 37) (byte b 38)) (phase-at b valid 4 e)) _ _ refl
+              (rw due-said)
+              (read-frame (byte b 37) (byte b 38) (Driven (bitAt (byte b 38) nibble)) (within b has 38 (omega arith))
+              ∙ rw due-said);
+          writing = λ e.
+              let writes = Writing (byte b 34) (bits b) (byte b 37) (byte b 38) in
+              let now = phase-at b valid 5 e in
+              leaves b valid s small (model.writeOffered nibble (byte b 34) (bits b) (byte b 37) (byte b 38))
+              (framed-by b valid s small edges.Offers fall writes now) _ _ refl
+              (rw due-said) (rw (due-said, ← low-said b valid writes now, ← high-said b valid writes now));
+          stray = λ four five.
+              let now = chipOf b .port .phase in
+              let code = code-said b valid now refl in
+              only b valid s small Stray _
+              (framed-by b valid s small edges.Offers fall now refl
+              ∙ stray-fall (getD (take 32 b) (address now) 0) now (chipOf b .port .line) (λ e. four (code ∙ e)) (λ e. five (code ∙ e)))
+              refl refl;
+        }
+
+  -- ---- a WR rise
+
+  module _ (rise : edge (chipOf b .port .levels) (levels s) ≡ edges.Takes (bitAt 3 s)) where
+    -- eight unfinished bits are the most, and one more fits into nine
+    bits-small : bits b < 256
+    bits-small = lt-of-lt-of-le (frame-has _ _ _ _ _ _ _ (has .frame) .small) (pow-mono (within b has 34 (omega arith)))
+
+    with-bit : model.more (bits b) (bitAt 3 s) ≡ withBit b s
+    with-bit = rw (bitNumber-bitAt 3 s) (mod-eq-of-lt (omega (arith, bits-small)))
+
+    -- the ninth is ignored
+    upper-eight : withBit b s / 2 % 256 ≡ bits b
+    upper-eight = omega (arith, bits-small)
+
+    module _ (phase : Phase) (now : chipOf b .port .phase ≡ phase) where
+      taken-by : framedBy (chipOf b .port) (levels s) ≡ model.taken (bitAt 3 s) phase (chipOf b .port .line)
+      unfolding frame
+      taken-by = framed-by b valid s small (edges.Takes (bitAt 3 s)) rise phase now
+
+      stray-rise : model.taken (bitAt 3 s) phase (chipOf b .port .line) ≡ framed phase (chipOf b .port .line) Stray
+          → OnlyLevels b s 9
+      unfolding answerCode
+      stray-rise e =
+          only b valid s small Stray _
+          (taken-by ∙ e ∙ ap (λ (p : Phase). framed p (chipOf b .port .line) Stray) (sym now)) refl refl
+
+      -- a bit taken leads from phase to phase
+      leads : (next : Phase) (frame : List ℕ) → model.taken (bitAt 3 s) phase (chipOf b .port .line) ≡ model.collected next
+          → frameLeft next Released ≡ frame → Leaves b s 4 frame
+      unfolding answerCode
+      leads next frame e bytes = leaves b valid s small (model.collected next) (taken-by ∙ e) 4 frame refl refl bytes
+
+      -- or leaves it in its phase
+      adds : (next : Phase) → model.taken (bitAt 3 s) phase (chipOf b .port .line) ≡ model.collected next
+          → phaseNumber next ≡ phaseNumber phase → unfinished next ≡ byte b 34 + 1 → valueOf next ≡ withBit b s
+          → address next ≡ address phase → positionOf next ≡ positionOf phase
+          → Leaves b s 4 (oneMore b s)
+      adds next e code count value at position =
+          leads next _ e
+          (rw (code, count, value, at, position, code-said b valid phase now, address-said b valid phase now, position-said b valid phase now))
+
+    more-in : (code : ℕ) → byte b 33 ≡ code → byte b 34 < beforeLast code
+        → Leaves b s 4 (oneMore b s)
+    unfolding phaseRead model.taken model.identTaken model.readToTaken model.writeToTaken model.nibbleTaken model.commandTaken
+    more-in zero e h = let no : ⊥ = omega arith in absurd no
+    more-in (suc zero) e h =
+        adds (Ident (byte b 34) (bits b)) (phase-at b valid 1 e) (Ident (byte b 34 + 1) (model.more (bits b) (bitAt 3 s)))
+        (rw (lt-ltb (byte b 34) 2 h)) refl refl with-bit refl refl
+    more-in (suc (suc zero)) e h =
+        adds (ReadTo (byte b 34) (bits b)) (phase-at b valid 2 e) (ReadTo (byte b 34 + 1) (model.more (bits b) (bitAt 3 s)))
+        (rw (lt-ltb (byte b 34) 5 h)) refl refl with-bit refl refl
+    more-in (suc (suc (suc zero))) e h =
+        adds (WriteTo (byte b 34) (bits b)) (phase-at b valid 3 e) (WriteTo (byte b 34 + 1) (model.more (bits b) (bitAt 3 s)))
+        (rw (lt-ltb (byte b 34) 5 h)) refl refl with-bit refl refl
+    more-in (suc (suc (suc (suc zero)))) e h = let no : ⊥ = omega arith in absurd no
+    more-in (suc (suc (suc (suc (suc zero))))) e h =
+        adds (Writing (byte b 34) (bits b) (byte b 37) (byte b 38)) (phase-at b valid 5 e)
+        (Writing (byte b 34 + 1) (model.more (bits b) (bitAt 3 s)) (byte b 37) (byte b 38))
+        (rw (lt-ltb (byte b 34) 3 h)) refl refl with-bit refl refl
+    more-in (suc (suc (suc (suc (suc (suc zero)))))) e h =
+        adds (Command (byte b 34) (bits b)) (phase-at b valid 6 e) (Command (byte b 34 + 1) (model.more (bits b) (bitAt 3 s)))
+        (rw (lt-ltb (byte b 34) 8 h)) refl refl with-bit refl refl
+    more-in (suc (suc (suc (suc (suc (suc (suc zero))))))) e h = let no : ⊥ = omega arith in absurd no
+    more-in (suc (suc (suc (suc (suc (suc (suc (suc code)))))))) e h = let no : ⊥ = omega arith in absurd no
+
+    ninth : (decoded : Decoded) → framedBy (chipOf b .port) (levels s) ≡ framed (Command 0 0) Released (model.decodedAnswer decoded (bits b))
+        → Completes b s
+    unfolding answerCode memoryAfter
+    ninth (Means command) e = inl (
+      tells b valid s small (framed (Command 0 0) Released (Obeyed (bits b))) e ∙ add-zero (6 + 256 * bits b),
+      port-left b valid s small (framed (Command 0 0) Released (Obeyed (bits b))) e refl,
+    )
+    ninth Undefined e =
+        inr (leaves b valid s small (framed (Command 0 0) Released (Passed (bits b))) e _ _ refl (add-zero (7 + 256 * bits b)) refl)
+
+    pub takes : Takes b s
+    unfolding phaseRead model.taken model.identTaken model.readToTaken model.writeToTaken model.nibbleTaken model.commandTaken model.commandAnswer answerCode memoryAfter settingsAfter
+    takes =
+        record {
+          stray =
+              ⊎-elim (λ e. stray-rise (Reading (byte b 37) (byte b 38)) (phase-at b valid 4 e) refl)
+              (λ e. stray-rise Dead (phase-at b valid 7 e) refl);
+          more = λ h. more-in (byte b 33) refl h;
+          identifies = λ e count.
+              let made = ident-made (withBit b s) in
+              leaves b valid s small (model.identified (withBit b s))
+              (taken-by (Ident (byte b 34) (bits b)) (phase-at b valid 1 e) ∙ rw (count, with-bit)) _ _ (made .0) (made .1) (made .2);
+          readsFrom = λ e count.
+              leads (ReadTo (byte b 34) (bits b)) (phase-at b valid 2 e) (Reading (withBit b s % 32) 0) _ (rw (count, with-bit)) refl;
+          writesFrom = λ e count.
+              leads (WriteTo (byte b 34) (bits b)) (phase-at b valid 3 e) (Writing 0 0 (withBit b s % 32) 0) _ (rw (count, with-bit)) refl;
+          stores = λ e count.
+              stores b valid s small (framed (Writing 0 0 (model.next (byte b 37)) 0) Released (Stored (byte b 37) (nibbleOf (withBit b s))))
+              (taken-by (Writing (byte b 34) (bits b) (byte b 37) (byte b 38)) (phase-at b valid 5 e) ∙ rw (count, with-bit)) _ _ _ refl refl refl refl;
+          commands = λ e count.
+              ninth (codeMeaning (withBit b s))
+              (taken-by (Command (byte b 34) (bits b)) (phase-at b valid 6 e) ∙ rw (count, with-bit, upper-eight));
+        }
