@@ -1,13 +1,20 @@
-// Feeds the chip with the captures of standard input and writes what it makes of them, to be held against an outside
-// authority: the file `stdout` beside `src` is what the independent model of tests/model writes for the file `stdin`.
-// A line is a capture in the listing's alphabet, with `g` added for sample 16, and starts at power-on with zero memory.
-// Written in hex: for each sample a line with its answer, its first detail in two digits, and its second; and at the end
-// of each capture a line with the pins, numbered as the simulator does, and the 32 cells shown, and one with the 64 bytes
-// of the state record. Of the input 65,536 bytes are read. Assumes nothing beyond `libc`.
+// Answers a script of calls, to be held against an outside authority: the file `stdout` beside `src` is what the independent
+// model of tests/model writes for the file `stdin`. A line of the script is a letter and what it needs; numbers and bytes are
+// in hex, and so is what is written:
+//     = BYTES               a list of bytes for the calls after it: a record, nibbles, codes, noted bytes or a memory
+//     s TICKS CAPTURE       on a copy of the list, `step` for each digit, where `g` is sample 16, and `advance` by so many
+//                           ticks for each `t`: writes what each call returned, the pins and cells, and the copy
+//     p, o, c, d ROOM       `pins`, power-on, commands and decoding of the list: writes what the call returned, and the buffer
+//     w ROOM FIRST          the writing of the list
+//     r ROOM FIRST COUNT    the reading
+//     # WORDS               writes the line as it stands
+// TICKS has 4 digits, ROOM 3, FIRST and COUNT have 16. The buffer lent is as long as ROOM says and filled with 5a before, so
+// that it shows what was not written; for the cells of a capture it is 33 bytes. Of the script 262,144 bytes are read, of a
+// list 160, and at most 600 bytes are lent. Assumes nothing beyond `libc`.
 ghost use mathlib.Core.Path.{_≡_};
-ghost use Rattle.vectors.specs.Vectors.{sampleOf, after};
-use chip::Chip;
-use frames::Answer;
+ghost use Prim.Native.Nat.{_≤_};
+ghost use lib.ListN.{length};
+ghost use Rattle.vectors.specs.Vectors.{sampleOf};
 
 // The sample of a digit. A byte that is no digit gives a number too, so that there is nothing to refuse.
 fn sample_of(byte: u8) -> u8
@@ -17,6 +24,60 @@ fn sample_of(byte: u8) -> u8
         return byte % b'0';
     }
     byte - b'a' + 10
+}
+
+// The number of a hex digit.
+fn nibble_of(byte: u8) -> usize
+    ensures { λ r. ⌜ r ≤ 15 ⌝ }
+{
+    (sample_of(byte) % 16) as usize
+}
+
+// A byte of two hex digits.
+fn byte_of(high: u8, low: u8) -> u8 {
+    (16 * nibble_of(high) + nibble_of(low)) as u8
+}
+
+// The number of hex digits, of which the last 16 count.
+fn number_of(digits: &[u8]) -> usize {
+    let mut number: usize = 0;
+    let mut i: usize = 0;
+    while i < digits.len() {
+        number = number % 1152921504606846976 * 16 + nibble_of(digits[i]);
+        i += 1;
+    }
+    number
+}
+
+// The number in some columns of a line, or 0 where the line is too short for them.
+fn field(line: &[u8], from: usize, to: usize) -> usize {
+    if from <= to {
+        if to <= line.len() {
+            return number_of(&line[from..to]);
+        }
+    }
+    0
+}
+
+// Puts the bytes that a line lists into a buffer, as many as it takes, and says how many there are.
+fn put_list(line: &[u8], bytes: &mut [u8]) -> usize {
+    let mut i: usize = 0;
+    while i < bytes.len() {
+        if line.len() / 2 <= i + 1 {
+            return i;
+        }
+        bytes[i] = byte_of(line[2 * i + 2], line[2 * i + 3]);
+        i += 1;
+    }
+    i
+}
+
+// The first bytes of a buffer, or all of them.
+fn first_of(bytes: &mut [u8], count: usize) -> &mut [u8] {
+    if bytes.len() < count {
+        return bytes;
+    }
+    &mut bytes[0..count]
 }
 
 // A byte as `io` takes numbers.
@@ -29,6 +90,12 @@ fn end_line() {
     io::write_all(1, b"\n");
 }
 
+// Writes what a call returned.
+fn show_returned(returned: u32) {
+    io::print_hex(1, returned as u64, 1);
+    io::write_all(1, b" ");
+}
+
 // Writes bytes as a line of hex digits.
 fn show(bytes: &[u8]) {
     let mut i: usize = 0;
@@ -39,49 +106,136 @@ fn show(bytes: &[u8]) {
     end_line();
 }
 
-// Writes an answer and its details as a line.
-fn show_answer(answer: Answer) {
-    io::print_hex(1, wide(answers::number_of(answer)), 1);
-    io::print_hex(1, wide(answers::first_detail(answer)), 2);
-    io::print_hex(1, wide(answers::second_detail(answer)), 1);
+// Writes a line as it stands.
+fn repeat(line: &[u8]) {
+    io::write_all(1, line);
     end_line();
 }
 
-// Writes the pins, the cells and the record.
-fn show_chip(chip: Chip) {
-    let mut bytes = [0u8; 64];
-    let mut cells = [0u8; 32];
-    state::write(chip, &mut bytes);
-    let pins = simulator::pins(&bytes, &mut cells);
-    io::print_hex(1, pins as u64, 2);
-    show(&cells);
-    show(&bytes);
+// The letter of a line.
+fn letter_of(line: &[u8]) -> u8 {
+    if line.len() == 0 {
+        return b'#';
+    }
+    line[0]
 }
 
-// The chip after a byte of the input; a sample's answer, and a capture's end, is written.
-fn fed(chip: Chip, byte: u8) -> Chip
-    ensures { λ r. ⌜ r ≡ after chip byte ⌝ }
-{
-    if byte == b'\n' {
-        show_chip(chip);
-        return chip::empty();
-    }
+// A call of a capture.
+fn stepped(record: &mut [u8], byte: u8, ticks: u16) -> u32 {
     if byte == b't' {
-        return chip.tick();
+        return simulator::advance(record, ticks);
     }
-    let stepped = chip.step(sample_of(byte));
-    let answer = stepped.answer;
-    show_answer(answer);
-    stepped.chip
+    simulator::step(record, sample_of(byte))
+}
+
+// All calls of a capture.
+fn run(line: &[u8], record: &mut [u8]) {
+    let ticks = (field(line, 2, 6) % 65536) as u16;
+    let mut i: usize = 7;
+    while i < line.len() {
+        show_returned(stepped(record, line[i], ticks));
+        i += 1;
+    }
+}
+
+// The call that a letter stands for, of those that lend a buffer.
+fn called(letter: u8, line: &[u8], bytes: &[u8], out: &mut [u8]) -> u32 {
+    let first = field(line, 6, 22);
+    let count = field(line, 23, 39);
+    match letter {
+        b'o' => host::ht1621_power_on(bytes, out),
+        b'w' => host::ht1621_write(first, bytes, out),
+        b'r' => host::ht1621_read(first, count, out),
+        b'c' => host::ht1621_commands(bytes, out),
+        b'd' => host::ht1621_decode(bytes, out),
+        _ => simulator::pins(bytes, out),
+    }
+}
+
+// Makes such a call, and writes what it returned and the buffer.
+fn show_called(letter: u8, line: &[u8], bytes: &[u8], out: &mut [u8]) {
+    show_returned(called(letter, line, bytes, out));
+    show(out);
+}
+
+// Runs a capture, and writes the pins, the cells and the bytes of the record that it leaves.
+fn show_run(line: &[u8], record: &mut [u8], cells: &mut [u8]) {
+    run(line, record);
+    end_line();
+    show_called(b'p', line, record, cells);
+    show(record);
+}
+
+// Answers a line about a list of bytes, with a buffer to lend.
+fn answer_about(line: &[u8], bytes: &mut [u8], space: &mut [u8]) {
+    let letter = letter_of(line);
+    match letter {
+        b'=' => {}
+        b'#' => repeat(line),
+        b's' => show_run(line, bytes, first_of(space, 33)),
+        _ => show_called(letter, line, bytes, first_of(space, field(line, 2, 5))),
+    }
+}
+
+fn answer_with(line: &[u8], list: &[u8], bytes: &mut [u8], space: &mut [u8]) {
+    let count = put_list(list, bytes);
+    answer_about(line, first_of(bytes, count), space);
+}
+
+// Answers a line, given the line of the list that it is about.
+fn answer(line: &[u8], list: &[u8]) {
+    let mut bytes = [0u8; 160];
+    let mut space = [90u8; 600];
+    answer_with(line, list, &mut bytes, &mut space);
+}
+
+// Where the line that starts at a place ends.
+fn line_end(script: &[u8], start: usize) -> usize
+    requires { ⌜ start ≤ length (now script) ⌝ }
+    ensures { λ r. ⌜ start ≤ r ⌝ }
+    ensures { λ r. ⌜ r ≤ length (now (script .entry)) ⌝ }
+{
+    let mut end = start;
+    while end < script.len() {
+        if script[end] == b'\n' {
+            return end;
+        }
+        end += 1;
+    }
+    end
+}
+
+// The line that starts at a place, or all of the script if it has no such place.
+fn line_at(script: &[u8], start: usize) -> &[u8] {
+    if script.len() < start {
+        return script;
+    }
+    let end = line_end(script, start);
+    &script[start..end]
+}
+
+// Where the list stands that holds from a line on: that line, if it is a list, or where it stood.
+fn list_from(byte: u8, start: usize, before: usize) -> usize {
+    if byte == b'=' {
+        return start;
+    }
+    before
+}
+
+// Answers every line.
+fn answer_all(script: &[u8]) {
+    let mut list: usize = 0;
+    let mut start: usize = 0;
+    while start < script.len() {
+        let end = line_end(script, start);
+        list = list_from(script[start], start, list);
+        answer(&script[start..end], line_at(script, list));
+        start = end + 1;
+    }
 }
 
 fn main() {
-    let mut input = io::large_buffer();
+    let mut input = [0u8; 262144];
     let count = io::read_full(0, &mut input);
-    let mut chip = chip::empty();
-    let mut i: usize = 0;
-    while i < count {
-        chip = fed(chip, input[i]);
-        i += 1;
-    }
+    answer_all(&input[..count]);
 }

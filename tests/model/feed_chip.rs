@@ -1,0 +1,221 @@
+// The part of the script that shows what the chip does: commands, ticks, pins, and frames.
+use crate::captures::{frame, Random};
+use crate::{closed, digits, open, record, sent, Bytes, Script, COMMAND, OFF, ON, READ, TIMED, WRITE};
+use std::collections::BTreeSet;
+
+// Every code in a command frame of a chip with everything on, and of one with everything off; the ninth bit, which is
+// ignored, is 0 for half of the codes on each. Then what depends on a selection: SYS DIS on the clock, TIMER DIS and
+// WDT DIS on the source.
+pub fn codes(script: &mut Script) {
+    for (name, state, last) in [("on", ON, 0), ("off", OFF, 1)] {
+        script.words(&format!("every code, everything {name}"));
+        for code in 0..=255u8 {
+            let bits = format!("{code:08b}{}", (code + last) % 2);
+            script.capture(&record(&[state, COMMAND]), &sent(&bits));
+        }
+    }
+    for clock in 0..3 {
+        for source in 0..3 {
+            script.words(&format!("everything on, clock {clock}, source {source}"));
+            for code in [0x00, 0x01, 0x04, 0x05, 0x06, 0x07] {
+                let state = record(&[ON, &[(41, clock), (50, source)], COMMAND]);
+                script.capture(&state, &sent(&format!("{code:08b}0")));
+            }
+        }
+    }
+    script.words("commands that follow each other in one frame, and a frame that stops within one");
+    script.capture(&record(&[]), &closed("100000000010000000111000001101"));
+    script.capture(&record(&[ON]), &closed("1001110001101110000011"));
+}
+
+// Ticks: each clock, running or not, with the time base on or off, at the end of every counter; each rate beside the
+// numbers that it divides; the flag, set for each source and kept; and advancing by numbers of all sizes.
+pub fn ticks(script: &mut Script) {
+    let full: Bytes = &[(52, 6), (53, 15), (54, 126), (55, 255), (56, 3)];
+    for state in 0..12u8 {
+        let (clock, system, time_base) = (state / 4, state / 2 % 2, state % 2);
+        script.words(&format!("ticks: clock {clock}, system {system}, time base {time_base}"));
+        let state = record(&[full, &[(40, system), (41, clock), (49, time_base)]]);
+        for calls in ["t", "tt", "ttttttttttt"] {
+            script.capture(&state, calls);
+        }
+        for ticks in [0, 1, 8, 1000, 65_535] {
+            script.advance(&state, ticks);
+        }
+    }
+    for rate in 0..8u8 {
+        script.words(&format!("rate {rate}"));
+        let every = 1u8 << (7 - rate);
+        for divider in BTreeSet::from([every - 1, (every + 126) % 128, 63, 127, 0]) {
+            script.capture(&record(&[TIMED, &[(48, rate), (54, divider), (55, 9)]]), "t");
+        }
+        for ticks in [5000, 65_535] {
+            script.advance(&record(&[TIMED, &[(48, rate), (54, 1), (55, 100)]]), ticks);
+        }
+    }
+    script.words("the end of b under each w, and the flag for each source");
+    for (w, flag) in [(0, 0), (1, 0), (2, 0), (3, 0), (0, 1), (2, 1), (3, 1)] {
+        script.capture(&record(&[TIMED, &[(51, flag), (54, 3), (55, 255), (56, w)]]), "t");
+    }
+    for source in 0..3 {
+        let before: Bytes = &[(50, source), (47, 1)];
+        script.capture(&record(&[TIMED, before, &[(55, 254), (56, 3)]]), "t");
+        script.capture(&record(&[TIMED, before, &[(55, 255), (56, 3)]]), "t");
+        script.capture(&record(&[TIMED, before, &[(51, 1)]]), "t");
+        script.advance(&record(&[TIMED, before, &[(51, 1), (55, 255), (56, 2)]]), 60_000);
+        script.advance(&record(&[before, &[(51, 1), (40, 1), (41, 0)]]), 60_000);
+    }
+    script.words("the paper's cases h, i and j");
+    for (clock, source, last) in [(0, 2, 1024), (0, 1, 128), (1, 1, 1024), (2, 2, 8192)] {
+        for ticks in [last - 1, last] {
+            script.advance(&record(&[TIMED, &[(41, clock), (50, source), (47, 1)]]), ticks);
+        }
+    }
+}
+
+// Pins: the tone at every q, IRQ under all that it depends on and does not, DATA, the cells, and rooms.
+pub fn pins(script: &mut Script) {
+    script.words("the tone");
+    for kind in [4, 2] {
+        for q in 0..16 {
+            script.lend('p', &record(&[&[(40, 1), (45, 1), (46, kind), (53, q)]]), 32);
+        }
+        for (system, clock, tone) in [(1, 0, 0), (0, 0, 1), (0, 1, 1), (0, 2, 1), (1, 2, 1)] {
+            let switches: Bytes = &[(40, system), (41, clock), (45, tone)];
+            script.lend('p', &record(&[switches, &[(46, kind), (53, 15), (52, 7)]]), 32);
+        }
+    }
+    script.words("IRQ");
+    for state in 0..96u8 {
+        let (output, flag, b) = (state % 2, state / 2 % 2, 127 + state / 4 % 2);
+        let (system, time_base, source) = (state / 8 % 2, state / 16 % 2, state / 32);
+        if output == 1 || system == time_base {
+            let switches: Bytes = &[(40, system), (47, output), (49, time_base)];
+            script.lend('p', &record(&[switches, &[(50, source), (51, flag), (55, b)]]), 32);
+        }
+    }
+    for b in [0, 64, 191, 192, 255] {
+        script.lend('p', &record(&[&[(47, 1), (50, 1), (55, b)]]), 32);
+    }
+    script.words("DATA");
+    for state in [READ, WRITE] {
+        for data in 0..3 {
+            script.lend('p', &record(&[state, &[(39, data)]]), 32);
+        }
+    }
+    script.words("the cells");
+    for state in 0..24u8 {
+        let (commons, lcd) = (2 + state % 3, state / 3 % 2);
+        let (system, clock) = [(1, 0), (0, 0), (0, 2), (0, 1)][state as usize / 6];
+        script.lend('p', &record(&[&[(40, system), (41, clock), (42, lcd), (44, commons)]]), 32);
+    }
+    script.words("rooms for the cells");
+    let shown = record(&[ON]);
+    for room in [0, 1, 31, 33, 64] {
+        script.lend('p', &shown, room);
+    }
+    for room in [0, 31, 32] {
+        script.lend('p', &record(&[ON, &[(57, 2)]]), room);
+    }
+}
+
+// A step from each level of the lines to each, while the chip drives DATA and while it does not.
+pub fn levels(script: &mut Script) {
+    script.words("each level to each, in read and write frames");
+    for (frame, data) in [(READ, 2), (WRITE, 1)] {
+        for before in (0..16).step_by(2) {
+            let state = record(&[frame, &[(32, before), (38, 2), (39, data)]]);
+            for after in (0..16).step_by(2).chain([before + 1]) {
+                script.capture(&state, &digits(&[after]));
+            }
+        }
+    }
+    for (frame, data) in [(READ, 0), (READ, 1), (WRITE, 0), (WRITE, 2)] {
+        let state = record(&[frame, &[(38, 1), (39, data)]]);
+        for calls in ["6", "c", "4", "8", "a", "f", "46", "ce", "4e", "c6", "a", "42", "ca"] {
+            script.capture(&state, calls);
+        }
+    }
+    script.words("each level to each, within the bits of each phase, in a dead frame, and without a frame");
+    let states: [Bytes; 5] = [
+        &[(33, 1), (34, 1), (35, 1)],
+        &[(33, 2), (34, 3), (35, 5)],
+        &[(33, 3), (34, 4), (35, 9)],
+        &[(33, 6), (34, 7), (35, 85)],
+        &[(33, 7)],
+    ];
+    for state in states {
+        for before in [0, 4, 6, 8, 12, 14] {
+            let held = record(&[state, &[(32, before)]]);
+            for after in [before ^ 2, before ^ 4, before ^ 6, before ^ 10, before ^ 8, 15] {
+                script.capture(&held, &digits(&[after]));
+            }
+        }
+    }
+    for before in [1, 9, 13, 15] {
+        for calls in ["0", "4", "6", "a", "e", "f", "1", "d", "g"] {
+            script.capture(&record(&[&[(32, before)]]), calls);
+        }
+    }
+}
+
+// Frames of each kind, cut after each bit: left open, and closed; with strays and clashes in every phase.
+pub fn frames(script: &mut Script) {
+    let whole = [
+        "110111111RRRRRRRRR1RR",
+        "1010111111011001",
+        "101011111RRRRR11RR01R0RRRRRR",
+        "1001010101110010",
+        "0001R",
+        "0011R",
+        "0101R",
+        "0111R",
+        "1111R",
+    ];
+    let mut texts = BTreeSet::new();
+    for text in whole {
+        texts.extend((0..=text.len()).map(|length| &text[..length]));
+    }
+    script.words("frames cut after each bit");
+    for text in texts {
+        script.capture(&record(&[]), &open(text));
+        script.capture(&record(&[]), &closed(text));
+    }
+    script.words("frames that clash in each phase");
+    for text in ["X1X10X0001R01XRXR", "1X01X00X0101X1X0RX11", "100X0X0000001XR1", "111X1R"] {
+        script.capture(&record(&[]), &(open(text) + "t"));
+    }
+    script.words("the whole memory, written and read round the end");
+    let nibbles: String = (0..33).map(|i| format!("{:04b}", (i * 11 + 5) % 16)).collect();
+    script.capture(&record(&[]), &closed(&("101011110".to_string() + &nibbles)));
+    script.capture(&record(&[]), &closed(&("110111110".to_string() + &"RRRR".repeat(33))));
+}
+
+// A valid record with random settings and counters.
+fn any_record(random: &mut Random) -> Vec<u8> {
+    let limits = [2, 3, 2, 2, 3, 2, 2, 2, 8, 2, 3, 2, 8, 16, 128, 256, 4, 2];
+    let mut bytes = record(&[]);
+    for (place, limit) in (40..58).zip(limits) {
+        bytes[place] = random.below(limit) as u8;
+    }
+    bytes[43] += 2;
+    bytes[44] += 2;
+    bytes[46] = 2 + 2 * bytes[46];
+    bytes
+}
+
+// Random frames with wild samples, refused ones and ticks among them, from random settings.
+pub fn wild(random: &mut Random, script: &mut Script) {
+    script.words("wild captures");
+    for _ in 0..24 {
+        let mut capture = String::new();
+        while capture.len() < 150 {
+            let samples: Vec<u8> = match random.below(3) {
+                0 => (0..random.below(40)).map(|_| random.below(17) as u8).collect(),
+                _ => frame(random),
+            };
+            capture += &(digits(&samples) + &"t".repeat(random.below(4) as usize));
+        }
+        script.capture(&any_record(random), &capture);
+    }
+}
