@@ -1,3 +1,4 @@
 pub mod BytesLaws
 pub mod Pins
 pub mod PowerOn
+pub mod Streams
