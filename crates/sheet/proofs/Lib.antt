@@ -1,4 +1,7 @@
+pub mod AnswerLaws
+pub mod BufferLaws
 pub mod BytesLaws
+pub mod Left
 pub mod Pins
 pub mod PowerOn
 pub mod Streams

@@ -56,7 +56,7 @@ pitch-code (suc (suc (suc (suc (suc code))))) q h e = let no : ⊥ = omega arith
 
 -- ---- a nibble by its bits
 
-bit-small : (bit : Bool) → bitNumber bit ≤ 1
+pub bit-small : (bit : Bool) → bitNumber bit ≤ 1
 bit-small true = omega arith
 bit-small false = omega arith
 
