@@ -21,7 +21,8 @@ use Rattle.sheet.specs.Pins.{irqIsLow, sounds, toneIsHigh}
 use Rattle.sheet.specs.Left.{Keeps, StepRefused, PinsRefused, LeftSheet}
 use Rattle.sheet.proofs.AnswerLaws.{answer-low}
 use Rattle.sheet.proofs.BufferLaws.{write-leaves, read-leaves, commands-leave, decode-leaves, power-on-leaves}
-use Rattle.sheet.proofs.Pins.{bit-small, pins-sheet}
+use Rattle.sheet.proofs.Pins.{pins-sheet}
+use Rattle.sheet.proofs.PinsLaws.{bit-small}
 
 -- the record of a valid chip is as long as every valid record
 same-size : (b : List ℕ) (c : Chip) → recordValid b ≡ true → Valid c → length (recordOf c) ≡ length b
