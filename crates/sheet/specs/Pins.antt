@@ -22,7 +22,8 @@ sounds b = runs b && eqb (byte b 45) 1
 abbrev pub toneIsHigh : List ℕ → Bool
 toneIsHigh b = (eqb (byte b 46) 4 && leb 4 (byte b 53 % 8)) || (eqb (byte b 46) 2 && leb 8 (byte b 53))
 
--- The cell of SEG s and COM c shows: running, the LCD on, byte 42, c below the commons, byte 44, and bit c of byte s is 1.
+-- The cell of SEG s and COM c shows while running with the LCD on, byte 42, if that common is in use, byte 44, and the memory has its
+-- bit: byte s.
 abbrev pub cellShows : List ℕ → ℕ → ℕ → Bool
 cellShows b s c = runs b && eqb (byte b 42) 1 && ltb c (byte b 44) && bitAt c (byte b s)
 

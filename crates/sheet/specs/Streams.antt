@@ -30,7 +30,7 @@ ofCommands [] = []
 ofCommands (c ∷ codes) =
     c / 128 % 2 ∷ c / 64 % 2 ∷ c / 32 % 2 ∷ c / 16 % 2 ∷ c / 8 % 2 ∷ c / 4 % 2 ∷ c / 2 % 2 ∷ c % 2 ∷ 0 ∷ ofCommands codes
 
--- A stream starts 15, 14 and ends 15.
+-- What is sent stands between all lines high and CS low, and all lines high again.
 abbrev pub framed : List ℕ → List ℕ
 framed samples = (15 ∷ 14 ∷ samples) ++ (15 ∷ [])
 
