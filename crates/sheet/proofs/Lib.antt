@@ -1,10 +1,17 @@
+pub mod AnswerLaws
+pub mod BufferLaws
 pub mod BytesLaws
 pub mod Commands
 pub mod CommandsLaws
 pub mod Frames
 pub mod FramesLaws
+pub mod Left
 pub mod NinthBitLaws
+pub mod Pins
+pub mod PinsLaws
+pub mod PowerOn
 pub mod Samples
 pub mod SamplesLaws
+pub mod Streams
 pub mod Ticks
 pub mod TicksLaws

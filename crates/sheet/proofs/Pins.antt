@@ -1,0 +1,109 @@
+-- The pins by the bytes of a record: each pin of the model is the paper's test of the bytes that say its settings. Assumes nothing.
+use mathlib.Core.Path.{_≡_, _∙_, sym, ap}
+use mathlib.Core.Bool.{Bool, true, _&&_, _||_}
+use mathlib.Core.List.{List, map}
+use Prim.Native.Nat.{ℕ, _+_, _≤_}
+use native.Mathlib.Omega.{arith}
+use lib.Dec.{eqb}
+use lib.ListN.{length, take, drop, getD, length-map, List·getD-append}
+use lib.Seq.{getD-take, length-take-le}
+use borrow.Author.Tests.{le-ltb}
+use Rattle.ground.specs.Bits.{bitAt}
+use Rattle.ground.specs.Written.{over}
+use Rattle.ground.proofs.WrittenLaws.{length-over, drop-over}
+use Rattle.rules.specs.Ticks.{running}
+use Rattle.pins.specs.Pins.{irqLow, wave, sounding, bzHigh, partnerHigh, shows, shownNibble}
+use Rattle.chip.specs.Pins.{pinsShown}
+use Rattle.state.specs.Selections.{sourceRead, isSource, biasRead, isBias, commonsRead, isCommons, pitchRead, isPitch, irqSourceRead, isIrqSource}
+use Rattle.state.specs.Record.{settingsRight, settingsOf, recordValid, chipOf}
+use Rattle.state.proofs.CodesLaws.{line-again, commons-again}
+use Rattle.state.proofs.RangesLaws.{each-of-5}
+use Rattle.state.proofs.TripLaws.{RecordHas, valid-has, within}
+use Rattle.simulator.specs.Simulator.{pinsCode, pinsReturns, pinsBytes}
+use Rattle.sheet.specs.Bytes.{byte, runs}
+use Rattle.sheet.specs.Pins.{irqIsLow, sounds, toneIsHigh, cellShows, pinsNumber, PinsTold, PinsSheet}
+use Rattle.sheet.proofs.PinsLaws.{ext-code, irq-code, pitch-code, nibble-small, nibble-bit, map-at}
+
+module _ (b : List ℕ) (valid : recordValid b ≡ true) where
+  has : RecordHas b
+  has = valid-has b valid
+
+  running-runs : running (settingsOf b) ≡ runs b
+  unfolding running
+  running-runs = ap (λ (t : Bool). eqb (byte b 40) 1 || t) (ext-code (byte b 41) (within b has 41 (omega arith)))
+
+  irq-low : irqLow (settingsOf b) ≡ irqIsLow b
+  unfolding irqLow
+  irq-low = ap (λ (t : Bool). eqb (byte b 47) 1 && t) (irq-code (byte b 50) _ (within b has 50 (omega arith)))
+
+  sounding-sounds : sounding (settingsOf b) ≡ sounds b
+  unfolding sounding
+  sounding-sounds = ap (λ (t : Bool). t && eqb (byte b 45) 1) running-runs
+
+  selected : (isCommons (commonsRead (byte b 44)) ≡ true) × (isPitch (pitchRead (byte b 46)) ≡ true)
+  unfolding settingsRight
+  selected =
+      let each = each-of-5 (isSource (sourceRead (byte b 41))) (isBias (biasRead (byte b 43))) (isCommons (commonsRead (byte b 44)))
+      (isPitch (pitchRead (byte b 46))) (isIrqSource (irqSourceRead (byte b 50))) (has .settings) in
+      (each .2, each .3)
+
+  tone-high : wave (settingsOf b .tone .pitch) (settingsOf b .counters .toner .count) ≡ toneIsHigh b
+  tone-high = pitch-code (byte b 46) (byte b 53) (within b has 46 (omega arith)) (selected .1)
+
+  cell-shows : (s c : ℕ) → shows (settingsOf b) c (bitAt c (byte b s)) ≡ cellShows b s c
+  unfolding shows
+  cell-shows s c = rw (running-runs, commons-again (byte b 44) (within b has 44 (omega arith)) (selected .0))
+
+  -- the cells of an address, and all of them
+  abbrev cellsOf : ℕ → ℕ
+  cellsOf = shownNibble (settingsOf b)
+
+  abbrev cells : List ℕ
+  cells = map cellsOf (take 32 b)
+
+  cells-32 : length cells ≡ 32
+  cells-32 = length-map (take 32 b) cellsOf ∙ length-take-le 32 b (omega (arith, has .long))
+
+  cells-at : (s : ℕ) → s ≤ 31 → getD cells s 0 ≡ cellsOf (byte b s)
+  cells-at s h =
+      map-at cellsOf (take 32 b) s (omega (arith, cells-32, length-map (take 32 b) cellsOf))
+      ∙ ap cellsOf (getD-take 32 b s 0 (omega arith))
+
+  cell-bit : (s c : ℕ) → c ≤ 3 → bitAt c (cellsOf (byte b s)) ≡ cellShows b s c
+  unfolding shownNibble
+  cell-bit s c h = nibble-bit (λ (c : ℕ). shows (settingsOf b) c (bitAt c (byte b s))) c h ∙ cell-shows s c
+
+  cell-small : (n : ℕ) → cellsOf n ≤ 15
+  unfolding shownNibble
+  cell-small n = nibble-small (λ (c : ℕ). shows (settingsOf b) c (bitAt c n))
+
+  module _ (out : List ℕ) (room : 32 ≤ length out) where
+    bytes-left : pinsBytes b out ≡ over out 0 cells
+    unfolding pinsBytes pinsShown chipOf
+    bytes-left = rw (valid, le-ltb (length out) 32 room)
+
+    number : pinsReturns b out ≡ pinsNumber b
+    unfolding pinsReturns pinsCode pinsShown chipOf bzHigh partnerHigh
+    number =
+        rw (valid, le-ltb (length out) 32 room, irq-low, sounding-sounds, tone-high, line-again (byte b 39) (within b has 39 (omega arith)))
+
+    byte-left : (s : ℕ) → s ≤ 31 → byte (pinsBytes b out) s ≡ cellsOf (byte b s)
+    byte-left s h =
+        ap (λ (l : List ℕ). byte l s) bytes-left
+        ∙ List·getD-append cells (drop (0 + length cells) out) 0 s (omega (arith, cells-32)) ∙ cells-at s h
+
+    told : PinsTold b out
+    told =
+        record {
+          returned = number;
+          size = ap length bytes-left ∙ length-over out cells 0 (omega (arith, cells-32));
+          nibbles = λ s h. rw (byte-left s h) (cell-small (byte b s));
+          cells = λ s c h k. ap (bitAt c) (byte-left s h) ∙ cell-bit s c k;
+          rest =
+              let all : 0 + length cells ≡ 32 = omega (arith, cells-32) in
+              ap (drop 32) bytes-left ∙ ap (λ (n : ℕ). drop n (over out 0 cells)) (sym all)
+              ∙ drop-over out cells 0 (omega (arith, cells-32)) ∙ ap (λ (n : ℕ). drop n out) all;
+        }
+
+pub pins-sheet : PinsSheet
+pins-sheet b out valid room = told b valid out room
