@@ -20,6 +20,7 @@ use Rattle.chip.specs.Valid.{Valid}
 use Rattle.chip.proofs.ValidLaws.{stepped-valid, refused-keeps, ticked-valid, advanced-valid}
 use Rattle.place.specs.Place.{answerCode}
 use Rattle.state.specs.Record.{frameBytes, settingsBytes, byte, tailOf, recordOf}
+use Rattle.state.proofs.BytesLaws.{byte-past}
 use Rattle.state.proofs.ChipLaws.{chip-valid, chip-again}
 use Rattle.state.proofs.CodesLaws.{levels-back}
 use Rattle.simulator.specs.Simulator.{stepReturns, stepBytes, advanceBytes}
@@ -36,31 +37,9 @@ after-valid c (tick ∷ es) v = after-valid (happened c tick) es (ticked-valid c
 -- ---- the bytes of a valid chip
 
 module _ (c : Chip) (v : Valid c) where
-  pub memory-bytes : take 32 (recordOf c) ≡ c .port .memory
-  unfolding recordOf
-  memory-bytes = take-at (c .port .memory) (tailOf c) 32 (v .port .size)
-
-  pub port-bytes : take 40 (recordOf c) ≡ c .port .memory ++ frameBytes (c .port)
-  unfolding recordOf tailOf
-  port-bytes =
-      ap (λ (n : ℕ). take (n + 8) (c .port .memory ++ tailOf c)) (sym (v .port .size))
-      ∙ take-append-add (c .port .memory) (tailOf c) 8
-
-  pub settings-bytes : drop 40 (recordOf c) ≡ settingsBytes (c .settings) ++ replicate 6 0
-  unfolding recordOf tailOf
-  settings-bytes =
-      ap (λ (n : ℕ). drop (n + 8) (c .port .memory ++ tailOf c)) (sym (v .port .size))
-      ∙ drop-append-add (c .port .memory) (tailOf c) 8
-
-  byte-past : (i : ℕ) → byte (recordOf c) (32 + i) ≡ getD (tailOf c) i 0
-  unfolding recordOf
-  byte-past i =
-      ap (λ (n : ℕ). getD (c .port .memory ++ tailOf c) (n + i) 0) (sym (v .port .size))
-      ∙ getD-append-add (c .port .memory) (tailOf c) i 0
-
   lines-byte : levels (byte (recordOf c) 32) ≡ c .port .levels
   unfolding tailOf
-  lines-byte = ap levels (byte-past 0) ∙ levels-back (c .port .levels)
+  lines-byte = ap levels (byte-past c (v .port .size) 0) ∙ levels-back (c .port .levels)
 
   pub cs-byte : levels (byte (recordOf c) 32) .cs ≡ c .port .levels .cs
   cs-byte = ap (λ (l : Levels). l .cs) lines-byte
@@ -70,11 +49,11 @@ module _ (c : Chip) (v : Valid c) where
 
   pub count-byte : byte (recordOf c) 34 ≡ unfinished (c .port .phase)
   unfolding tailOf
-  count-byte = byte-past 2
+  count-byte = byte-past c (v .port .size) 2
 
   data-byte : byte (recordOf c) 39 ≡ lineNumber (c .port .line)
   unfolding tailOf
-  data-byte = byte-past 7
+  data-byte = byte-past c (v .port .size) 7
 
   data-noted : dataNoted (byte (recordOf c) 39) ≡ dataNumber (c .port .line)
   data-noted = ap dataNoted data-byte ∙ by (c .port .line)

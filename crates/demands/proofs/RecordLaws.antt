@@ -24,10 +24,11 @@ use Rattle.state.specs.Record.{frameBytes, settingsBytes, settingsOf, recordOf,
 use Rattle.state.proofs.ChipLaws.{valid-chip}
 use Rattle.state.proofs.TripLaws.{trip}
 use Rattle.simulator.specs.Simulator.{advanceBytes}
+use Rattle.state.proofs.BytesLaws.{memory-bytes, port-bytes, settings-bytes}
 use Rattle.demands.specs.Events.{Event, after, answers, notes}
 use Rattle.demands.specs.Calls.{Call, afterCalls, eventsOf, sent, passed, returns, noted}
 use Rattle.demands.specs.Records.{openingReturns, bitReturns, nibbleReturns, offerReturns, readReturns, commandReturns, noFrame}
-use Rattle.demands.proofs.CallsLaws.{after-valid, memory-bytes, port-bytes, settings-bytes, cs-byte, count-byte, advance-leaves, calls-leave, calls-tell, calls-note}
+use Rattle.demands.proofs.CallsLaws.{after-valid, cs-byte, count-byte, advance-leaves, calls-leave, calls-tell, calls-note}
 use Rattle.demands.proofs.CommandLaws.{commandsAnswers}
 use Rattle.demands.proofs.Ports.{Sixteen, runP, high, high-answer, after-port}
 use Rattle.demands.proofs.ReadLaws.{readAnswers}
@@ -105,18 +106,18 @@ module _ (b : List ℕ) (valid : recordValid b ≡ true) where
     notes-said = ap (λ (l : List ℕ). noted l calls) (sym (trip b valid)) ∙ calls-note c calls v
 
     pub memory-left : (m : List ℕ) → after c es .port .memory ≡ m → take 32 (afterCalls b calls) ≡ m
-    memory-left m e = ap (take 32) leaves ∙ memory-bytes (after c es) (after-valid c es v) ∙ e
+    memory-left m e = ap (take 32) leaves ∙ memory-bytes (after c es) (after-valid c es v .port .size) ∙ e
 
     pub settings-left : (s : Settings) → after c es .settings ≡ s → drop 40 (afterCalls b calls) ≡ settingsBytes s ++ replicate 6 0
     settings-left s e =
-        ap (drop 40) leaves ∙ settings-bytes (after c es) (after-valid c es v)
+        ap (drop 40) leaves ∙ settings-bytes (after c es) (after-valid c es v .port .size)
         ∙ ap (λ (x : Settings). settingsBytes x ++ replicate 6 0) e
 
     pub ticks-left : after c es .settings ≡ ticks.advanced (passed calls) (c .settings)
         → drop 40 (afterCalls b calls) ≡ drop 40 (advanceBytes b (passed calls))
     ticks-left e =
         settings-left (ticks.advanced (passed calls) (c .settings)) e
-        ∙ sym (settings-bytes (advanced (passed calls) c) (advanced-valid (passed calls) c v))
+        ∙ sym (settings-bytes (advanced (passed calls) c) (advanced-valid (passed calls) c v .port .size))
         ∙ ap (drop 40) (sym (advance-leaves c v (passed calls)) ∙ ap (λ (l : List ℕ). advanceBytes l (passed calls)) (trip b valid))
 
     module _ (small : Sixteen (sent calls)) where
@@ -124,7 +125,7 @@ module _ (b : List ℕ) (valid : recordValid b ≡ true) where
           → take 40 (afterCalls b calls) ≡ m ++ noFrame
       port-left m ls e ends kept =
           let same : after c es .port ≡ runP (c .port) ls = after-port c es small ∙ ap (runP (c .port)) e in
-          ap (take 40) leaves ∙ port-bytes (after c es) (after-valid c es v)
+          ap (take 40) leaves ∙ port-bytes (after c es) (after-valid c es v .port .size)
           ∙ ap₂ _++_ kept (ap frameBytes (same ∙ ends (c .port)))
 
       pub told : (bits : ℕ) (rest : List Answer) (numbers : List ℕ) → map answerCode rest ≡ numbers

@@ -11,6 +11,7 @@ use Rattle.chip.specs.Valid.{Valid}
 use Rattle.state.specs.Record.{recordOf, recordValid, chipOf}
 use Rattle.state.proofs.ChipLaws.{valid-chip, chip-valid}
 use Rattle.driver.specs.Streams.{writeStream, readStream, commandStream}
+use Rattle.state.proofs.BytesLaws.{memory-bytes}
 use Rattle.demands.specs.Accepted.{AcceptsWrite, AcceptsRead, AcceptsCommands}
 use Rattle.demands.specs.Events.{after, notes, ReadsAs}
 use Rattle.demands.specs.Demand2.{dueCommands, between, Writes, Reads, Commands}
@@ -18,7 +19,7 @@ use Rattle.demands.specs.Demand3.{completed, Survives}
 use Rattle.demands.specs.Calls.{Call, afterCalls, eventsOf, sent, passed, noted, CallsKeepValid}
 use Rattle.demands.specs.Records.{readReturns, CallsWrite, CallsRead, CallsCommand, Demand2OfRecords, Demand3OfRecords}
 use Rattle.demands.proofs.AcceptedLaws.{accepted-write, accepted-read, accepted-commands}
-use Rattle.demands.proofs.CallsLaws.{after-valid, memory-bytes, calls-leave, calls-note}
+use Rattle.demands.proofs.CallsLaws.{after-valid, calls-leave, calls-note}
 use Rattle.demands.proofs.CommandLaws.{commandsAnswers}
 use Rattle.demands.proofs.Demand2.{demand2, write-answered, read-answered, command-answered}
 use Rattle.demands.proofs.Demand3.{demand3}
@@ -103,7 +104,7 @@ demand3-of-records b first ns k calls valid accepts e =
       memory = memory-left b valid calls _ (survives .memory ∙ ap (λ (m : List ℕ). paste m first ns (completed (length ns) k)) said);
       settings = ticks-left b valid calls (survives .settings);
       resent = λ again e₁.
-          ap (take 32) (twice again) ∙ memory-bytes _ (after-valid _ (eventsOf again) stopped-valid) ∙ survives .resent (eventsOf again) e₁
+          ap (take 32) (twice again) ∙ memory-bytes _ (after-valid _ (eventsOf again) stopped-valid .port .size) ∙ survives .resent (eventsOf again) e₁
           ∙ ap (λ (m : List ℕ). paste m first ns (length ns)) said;
       readBack = λ again back e₁ e₂.
           subst (λ noted. ReadsAs noted ns)

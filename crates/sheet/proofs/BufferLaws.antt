@@ -31,7 +31,7 @@ module _ (stream written before : List ℕ) where
   Left due = Small due → Leaves stream before (hostCode due) (left due written before)
 
   refusal-leaves : (why : Refusal) → Left (Refused why)
-  unfolding hostCode refusedCode
+  unfolding hostCode
   refusal-leaves why small =
       record {
         refusal = record { size = refl; kept = λ r. refl };

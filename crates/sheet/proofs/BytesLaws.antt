@@ -15,6 +15,7 @@ use Rattle.rules.specs.Numbers.{sourceNumber}
 use Rattle.rules.specs.Ticks.{isExt, running}
 use Rattle.chip.specs.declared.Chip.{Chip}
 use Rattle.state.specs.Record.{frameBytes, settingsBytes, settingsOf, recordValid, recordOf, tailOf, chipOf}
+use Rattle.state.proofs.BytesLaws.{port-bytes}
 use Rattle.state.proofs.ChipLaws.{valid-chip}
 use Rattle.state.proofs.CodesLaws.{bit-back}
 use Rattle.state.proofs.TripLaws.{gather, gathered, valid-has, trip}
@@ -26,22 +27,10 @@ settled s = settingsBytes s ++ replicate 6 0
 abbrev pub spelt : List ℕ → Settings → List ℕ
 spelt b s = gather 40 0 b ++ settled s
 
--- the settings' bytes of a chip, and the forty before them
-module _ (c : Chip) (size : length (c .port .memory) ≡ 32) where
-  pub settings-left : drop 40 (recordOf c) ≡ settled (c .settings)
-  unfolding recordOf tailOf
-  settings-left =
-      ap (λ (n : ℕ). drop (n + 8) (c .port .memory ++ tailOf c)) (sym size) ∙ drop-append-add (c .port .memory) (tailOf c) 8
-
-  port-first : take 40 (recordOf c) ≡ c .port .memory ++ frameBytes (c .port)
-  unfolding recordOf tailOf
-  port-first =
-      ap (λ (n : ℕ). take (n + 8) (c .port .memory ++ tailOf c)) (sym size) ∙ take-append-add (c .port .memory) (tailOf c) 8
-
 module _ (b : List ℕ) (valid : recordValid b ≡ true) where
   forty : chipOf b .port .memory ++ frameBytes (chipOf b .port) ≡ gather 40 0 b
   forty =
-      sym (port-first (chipOf b) (valid-chip b valid .port .size))
+      sym (port-bytes (chipOf b) (valid-chip b valid .port .size))
       ∙ ap (take 40) (trip b valid ∙ gathered 40 0 b (omega (arith, valid-has b valid .long)))
 
   -- a record in which other settings are written

@@ -28,9 +28,10 @@ use Rattle.state.proofs.ChipLaws.{valid-chip}
 use Rattle.state.proofs.FramesLaws.{FrameHas, frame-has, FrameSame, frame-same}
 use Rattle.state.proofs.TripLaws.{valid-has, within}
 use Rattle.simulator.specs.Simulator.{stepReturns, stepBytes}
+use Rattle.state.proofs.BytesLaws.{settings-bytes}
 use Rattle.sheet.specs.Bytes.{byte}
 use Rattle.sheet.specs.Commands.{defined, effectOf, NinthBit, CommandsOfBytes}
-use Rattle.sheet.proofs.BytesLaws.{settled, settings-left, bytes-spelt}
+use Rattle.sheet.proofs.BytesLaws.{settled, bytes-spelt}
 use Rattle.sheet.proofs.CommandsLaws.{effect-same, defined-same, code-answer, code-obeyed, code-told}
 use Rattle.sheet.proofs.NinthBitLaws.{first-bit, edge-takes, takes-only, frame-keeps}
 
@@ -64,7 +65,7 @@ module _ (b : List ℕ) (sample : ℕ) (valid : recordValid b ≡ true) where
         let bytes : stepBytes b sample ≡ recordOf (stepped c sample .chip) = simp (valid, le-ltb 15 sample low) in
         let settings : stepped c sample .chip .settings ≡ settingsAfter (act answer) (settingsOf b) = simp (le-ltb 15 sample low) in
         ap (drop 40) bytes
-        ∙ settings-left (stepped c sample .chip) (stepped-valid c sample (valid-chip b valid) .port .size)
+        ∙ settings-bytes (stepped c sample .chip) (stepped-valid c sample (valid-chip b valid) .port .size)
         ∙ ap settled settings
 
   -- ---- that takes the ninth bit

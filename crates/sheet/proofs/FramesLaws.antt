@@ -1,5 +1,5 @@
--- Laws of a frame's bytes: the parts of a chip's record, the frame that a valid record's bytes 33 to 39 say, and what the
--- frame's rules make of it, written. Assumes nothing.
+-- Laws of a frame's bytes: the frame that a valid record's bytes 33 to 39 say, and what the frame's rules make of it, written.
+-- Assumes nothing.
 use mathlib.Core.Path.{_≡_, _∙_, refl, sym, ap}
 use mathlib.Core.Bool.{Bool, true, false, cond}
 use mathlib.Core.List.{List, [], _∷_, _++_}
@@ -22,6 +22,7 @@ use Rattle.chip.specs.declared.Chip.{Chip}
 use Rattle.place.specs.Place.{answerCode}
 use Rattle.state.specs.FrameCodes.{phaseRead, phaseNumber, valueOf, positionOf, phaseIn}
 use Rattle.state.specs.Record.{recordValid, frameBytes, settingsBytes, tailOf, recordOf, chipOf}
+use Rattle.state.proofs.BytesLaws.{byte-past}
 use Rattle.state.proofs.TripLaws.{trip}
 use Rattle.state.proofs.ChipLaws.{valid-chip}
 use Rattle.sheet.specs.Bytes.{byte}
@@ -32,27 +33,6 @@ abbrev pub frameLeft : Phase → Line → List ℕ
 frameLeft phase line =
     phaseNumber phase ∷ unfinished phase ∷ valueOf phase % 256 ∷ valueOf phase / 256
     ∷ address phase ∷ positionOf phase ∷ lineNumber line ∷ []
-
--- ---- the parts of a chip's record
-
-module _ (chip : Chip) (size : length (chip .port .memory) ≡ 32) where
-  pub byte-past : (i : ℕ) → byte (recordOf chip) (32 + i) ≡ getD (tailOf chip) i 0
-  unfolding recordOf
-  byte-past i =
-      ap (λ (n : ℕ). getD (chip .port .memory ++ tailOf chip) (n + i) 0) (sym size)
-      ∙ getD-append-add (chip .port .memory) (tailOf chip) i 0
-
-  pub port-bytes : take 40 (recordOf chip) ≡ chip .port .memory ++ frameBytes (chip .port)
-  unfolding recordOf tailOf
-  port-bytes =
-      ap (λ (n : ℕ). take (n + 8) (chip .port .memory ++ tailOf chip)) (sym size)
-      ∙ take-append-add (chip .port .memory) (tailOf chip) 8
-
-  pub rest-bytes : drop 40 (recordOf chip) ≡ settingsBytes (chip .settings) ++ replicate 6 0
-  unfolding recordOf tailOf
-  rest-bytes =
-      ap (λ (n : ℕ). drop (n + 8) (chip .port .memory ++ tailOf chip)) (sym size)
-      ∙ drop-append-add (chip .port .memory) (tailOf chip) 8
 
 -- ---- the frame of a valid record
 

@@ -22,15 +22,15 @@ use Rattle.state.proofs.TripLaws.{RecordHas, valid-has, within}
 use Rattle.simulator.specs.Simulator.{pinsCode, pinsReturns, pinsBytes}
 use Rattle.sheet.specs.Bytes.{byte, runs}
 use Rattle.sheet.specs.Pins.{irqIsLow, sounds, toneIsHigh, cellShows, pinsNumber, PinsTold, PinsSheet}
-use Rattle.sheet.proofs.PinsLaws.{ext-code, irq-code, pitch-code, nibble-small, nibble-bit, map-at}
+use Rattle.sheet.proofs.BytesLaws.{bytes-spelt, runs-running}
+use Rattle.sheet.proofs.PinsLaws.{irq-code, pitch-code, nibble-small, nibble-bit, map-at}
 
 module _ (b : List ℕ) (valid : recordValid b ≡ true) where
   has : RecordHas b
   has = valid-has b valid
 
   running-runs : running (settingsOf b) ≡ runs b
-  unfolding running
-  running-runs = ap (λ (t : Bool). eqb (byte b 40) 1 || t) (ext-code (byte b 41) (within b has 41 (omega arith)))
+  running-runs = sym (ap runs (bytes-spelt b valid) ∙ runs-running b (settingsOf b))
 
   irq-low : irqLow (settingsOf b) ≡ irqIsLow b
   unfolding irqLow

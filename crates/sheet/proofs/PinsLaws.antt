@@ -20,10 +20,6 @@ or-false : (t : Bool) → (t || false) ≡ t
 or-false true = refl
 or-false false = refl
 
-pub ext-code : (code : ℕ) → code ≤ 2 → isExt (sourceIn (sourceRead code)) ≡ eqb code 2
-unfolding sourceRead
-ext-code code h = agree (λ (k : ℕ). isExt (sourceIn (sourceRead k))) (λ (k : ℕ). eqb k 2) 3 refl code (omega arith)
-
 pub irq-code : (code : ℕ) (timer : Timer) → code ≤ 2
     → asserted (irqSourceIn (irqSourceRead code)) timer ≡ ((eqb code 2 && timer .watchdog .flag) || (eqb code 1 && leb 128 (timer .base .count)))
 unfolding irqSourceRead

@@ -25,6 +25,7 @@ use Rattle.chip.proofs.ValidLaws.{stepped-valid}
 use Rattle.place.specs.Place.{answerCode}
 use Rattle.state.specs.FrameCodes.{linesNumber}
 use Rattle.state.specs.Record.{recordValid, frameBytes, settingsBytes, tailOf, recordOf, chipOf}
+use Rattle.state.proofs.BytesLaws.{byte-past, port-bytes, settings-bytes}
 use Rattle.state.proofs.TripLaws.{trip}
 use Rattle.state.proofs.ChipLaws.{valid-chip}
 use Rattle.state.proofs.CodesLaws.{lines-again}
@@ -32,7 +33,7 @@ use Rattle.simulator.specs.Simulator.{stepReturns, stepBytes}
 use Rattle.sheet.specs.Bytes.{byte}
 use Rattle.sheet.specs.Frames.{OnlyLevels, Leaves, Stores}
 use Rattle.sheet.specs.Samples.{rises, falls}
-use Rattle.sheet.proofs.FramesLaws.{frameLeft, byte-past, port-bytes, rest-bytes}
+use Rattle.sheet.proofs.FramesLaws.{frameLeft}
 
 -- a fall the other way round
 swapped : (x y : Bool) → (not y && x) ≡ (x && not y)
@@ -50,7 +51,7 @@ module _ (b : List ℕ) (valid : recordValid b ≡ true) where
   size = valid-chip b valid .port .size
 
   rest-same : drop 40 b ≡ settingsBytes (c .settings) ++ replicate 6 0
-  rest-same = ap (drop 40) (sym (trip b valid)) ∙ rest-bytes c (valid-chip b valid .port .size)
+  rest-same = ap (drop 40) (sym (trip b valid)) ∙ settings-bytes c (valid-chip b valid .port .size)
 
   module _ (s : ℕ) (small : s ≤ 15) where
     -- ---- what a step makes of the frame is what it makes of the record

@@ -1,3 +1,4 @@
+pub mod BytesLaws
 pub mod ChipLaws
 pub mod CodesLaws
 pub mod Determined
