@@ -2,11 +2,9 @@
 -- of its answers, and note what it drives. Assumes nothing.
 use mathlib.Core.Path.{_≡_, _∙_, refl, sym, ap, ap₂, subst}
 use mathlib.Core.Bool.{Bool, true, false, cond}
-use mathlib.Core.List.{List, [], _∷_, _++_, map}
-use Prim.Native.Nat.{ℕ, _+_, _≤_}
+use mathlib.Core.List.{List, [], _∷_, map}
+use Prim.Native.Nat.{ℕ, _≤_}
 use lib.Dec.{ltb}
-use lib.ListN.{take, drop, getD, replicate}
-use lib.Seq.{take-at, take-append-add, drop-append-add, getD-append-add}
 use borrow.Author.Tests.{le-ltb, ltb-true}
 use Rattle.frames.specs.declared.Levels.{Levels}
 use Rattle.frames.specs.declared.Line.{Line}
@@ -19,7 +17,7 @@ use Rattle.chip.specs.Chip.{stepped, advanced}
 use Rattle.chip.specs.Valid.{Valid}
 use Rattle.chip.proofs.ValidLaws.{stepped-valid, refused-keeps, ticked-valid, advanced-valid}
 use Rattle.place.specs.Place.{answerCode}
-use Rattle.state.specs.Record.{frameBytes, settingsBytes, byte, tailOf, recordOf}
+use Rattle.state.specs.Record.{byte, tailOf, recordOf}
 use Rattle.state.proofs.BytesLaws.{byte-past}
 use Rattle.state.proofs.ChipLaws.{chip-valid, chip-again}
 use Rattle.state.proofs.CodesLaws.{levels-back}

@@ -1,5 +1,4 @@
--- The driver's cases of 01 "Cases on both sides", (c) and (d), and its example of a write, each computed from the definitions.
--- Assumes nothing.
+-- The driver's cases of 01 "Cases on both sides", (c) and (d), computed from the definitions. Assumes nothing.
 use mathlib.Core.Path.{_≡_, _∙_, refl, ap}
 use mathlib.Core.List.{List, [], _∷_}
 use Prim.Native.Nat.{ℕ, _+_, _*_, _≤_}
@@ -40,10 +39,3 @@ read-at-31 room h = simp (le-ltb room 29 h)
 pub read-past-31 : (room : ℕ) → RefusedWith 22 0 (readAnswer 31 2 room)
 unfolding readAnswer outsideMemory
 read-past-31 room = (refl, refl)
-
--- 01 "The listing": 5 written at address 3 is these 29 samples
-pub write-five-at-3 : writeStream 3 (5 ∷ [])
-    ≡ 15 ∷ 14 ∷ 12 ∷ 14 ∷ 4 ∷ 6 ∷ 12 ∷ 14 ∷ 4 ∷ 6 ∷ 4 ∷ 6 ∷ 4 ∷ 6 ∷ 4 ∷ 6 ∷ 12 ∷ 14 ∷ 12 ∷ 14 ∷
-    12 ∷ 14 ∷ 4 ∷ 6 ∷ 12 ∷ 14 ∷ 4 ∷ 6 ∷ 15 ∷ []
-unfolding writeStream
-write-five-at-3 = refl

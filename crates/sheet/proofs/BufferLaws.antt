@@ -17,18 +17,18 @@ use Rattle.ground.proofs.ChoiceLaws.{by-cases}
 use Rattle.ground.proofs.WrittenLaws.{length-over, take-over, drop-over}
 use Rattle.driver.specs.Streams.{writeStream, readStream, commandStream, decoded}
 use Rattle.driver.specs.Refusals.{writeRefusals, readRefusals, commandRefusals, decodeRefusals, writeAnswer, readAnswer, commandAnswer, decodeAnswer}
-use Rattle.host.specs.Host.{refusedCode, hostCode, powerOnRecord, recordRefusals, powerOnAnswer, powerOnReturns, powerOnBytes}
+use Rattle.host.specs.Host.{hostCode, powerOnRecord, recordRefusals, powerOnAnswer, powerOnReturns, powerOnBytes}
 use Rattle.host.specs.Host.{writeReturns, writeBytes, readReturns, readBytes, commandsReturns, commandsBytes, decodeReturns, decodeBytes}
 use Rattle.host.proofs.CodesLaws.{Small, write-small, read-small, commands-small, decode-small}
 use Rattle.host.proofs.HostLaws.{power-on-size, power-on-small}
 use Rattle.sheet.specs.PowerOn.{freshRecord}
-use Rattle.sheet.specs.Left.{Leaves}
+use Rattle.sheet.specs.Left.{BufferLeft}
 use Rattle.sheet.proofs.PowerOn.{fresh}
 
 module _ (stream written before : List ℕ) where
   -- what is left where a call comes to this, and what it then writes is the stream said in other words
   abbrev Left : Outcome → Type 0
-  Left due = Small due → Leaves stream before (hostCode due) (left due written before)
+  Left due = Small due → BufferLeft stream before (hostCode due) (left due written before)
 
   refusal-leaves : (why : Refusal) → Left (Refused why)
   unfolding hostCode
@@ -70,35 +70,35 @@ fits-leaves : (stream out : List ℕ) → ltb (length out) (length stream) ≡ f
 fits-leaves stream out fits = success-leaves stream stream out (length stream) refl (ltb-false (length out) (length stream) fits) refl
 
 pub write-leaves : (first : ℕ) (nibbles out : List ℕ)
-    → Leaves (writeStream first nibbles) out (writeReturns first nibbles out) (writeBytes first nibbles out)
+    → BufferLeft (writeStream first nibbles) out (writeReturns first nibbles out) (writeBytes first nibbles out)
 unfolding writeReturns writeBytes writeAnswer
 write-leaves first nibbles out =
     let stream = writeStream first nibbles in
     ladder-leaves stream stream out (writeRefusals first nibbles (length out)) (length stream)
     (λ some inside clean. fits-leaves stream out) (write-small first nibbles (length out))
 
-pub read-leaves : (first count : ℕ) (out : List ℕ) → Leaves (readStream first count) out (readReturns first count out) (readBytes first count out)
+pub read-leaves : (first count : ℕ) (out : List ℕ) → BufferLeft (readStream first count) out (readReturns first count out) (readBytes first count out)
 unfolding readReturns readBytes readAnswer
 read-leaves first count out =
     let stream = readStream first count in
     ladder-leaves stream stream out (readRefusals first count (length out)) (length stream)
     (λ some inside. fits-leaves stream out) (read-small first count (length out))
 
-pub commands-leave : (codes out : List ℕ) → Leaves (commandStream codes) out (commandsReturns codes out) (commandsBytes codes out)
+pub commands-leave : (codes out : List ℕ) → BufferLeft (commandStream codes) out (commandsReturns codes out) (commandsBytes codes out)
 unfolding commandsReturns commandsBytes commandAnswer
 commands-leave codes out =
     let stream = commandStream codes in
     ladder-leaves stream stream out (commandRefusals codes (length out)) (length stream)
     (λ some few clean. fits-leaves stream out) (commands-small codes (length out))
 
-pub decode-leaves : (noted out : List ℕ) → Leaves (decoded noted) out (decodeReturns noted out) (decodeBytes noted out)
+pub decode-leaves : (noted out : List ℕ) → BufferLeft (decoded noted) out (decodeReturns noted out) (decodeBytes noted out)
 unfolding decodeReturns decodeBytes decodeAnswer
 decode-leaves noted out =
     let stream = decoded noted in
     ladder-leaves stream stream out (decodeRefusals noted (length out)) (length stream)
     (λ counted clean. fits-leaves stream out) (decode-small noted (length out))
 
-pub power-on-leaves : (memory bytes : List ℕ) → Leaves (freshRecord memory) bytes (powerOnReturns memory bytes) (powerOnBytes memory bytes)
+pub power-on-leaves : (memory bytes : List ℕ) → BufferLeft (freshRecord memory) bytes (powerOnReturns memory bytes) (powerOnBytes memory bytes)
 unfolding powerOnReturns powerOnBytes powerOnAnswer
 power-on-leaves memory bytes =
     ladder-leaves (freshRecord memory) (powerOnRecord memory) bytes (recordRefusals memory (length bytes)) 64

@@ -6,14 +6,12 @@ use mathlib.Core.List.{List, _++_, append-assoc}
 use Prim.Native.Nat.{ℕ, _+_}
 use native.Mathlib.Omega.{arith}
 use lib.Dec.{eqb}
-use lib.ListN.{length, take, drop, replicate}
-use lib.Seq.{take-append-add, drop-append-add}
+use lib.ListN.{take, replicate}
 use Rattle.clock.specs.declared.Source.{Source}
 use Rattle.clock.specs.declared.Source.the-variants.{Xtal, Rc, Ext}
 use Rattle.rules.specs.declared.Settings.{Settings}
 use Rattle.rules.specs.Numbers.{sourceNumber}
 use Rattle.rules.specs.Ticks.{isExt, running}
-use Rattle.chip.specs.declared.Chip.{Chip}
 use Rattle.state.specs.Record.{frameBytes, settingsBytes, settingsOf, recordValid, recordOf, tailOf, chipOf}
 use Rattle.state.proofs.BytesLaws.{port-bytes}
 use Rattle.state.proofs.ChipLaws.{valid-chip}

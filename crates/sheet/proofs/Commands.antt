@@ -30,7 +30,7 @@ use Rattle.state.proofs.TripLaws.{valid-has, within}
 use Rattle.simulator.specs.Simulator.{stepReturns, stepBytes}
 use Rattle.state.proofs.BytesLaws.{settings-bytes}
 use Rattle.sheet.specs.Bytes.{byte}
-use Rattle.sheet.specs.Commands.{defined, effectOf, NinthBit, CommandsOfBytes}
+use Rattle.sheet.specs.Commands.{defined, effectOf, NinthBit, CommandsSheet}
 use Rattle.sheet.proofs.BytesLaws.{settled, bytes-spelt}
 use Rattle.sheet.proofs.CommandsLaws.{effect-same, defined-same, code-answer, code-obeyed, code-told}
 use Rattle.sheet.proofs.NinthBitLaws.{first-bit, edge-takes, takes-only, frame-keeps}
@@ -147,8 +147,8 @@ module _ (b : List ℕ) (sample : ℕ) (valid : recordValid b ≡ true) where
           (λ bit z code eight. never (is-ninth low bit z code eight)))
           ∙ sym settled-said
 
-pub commands-of-bytes : CommandsOfBytes
-commands-of-bytes =
+pub commands-sheet : CommandsSheet
+commands-sheet =
     record {
       steps = λ b sample valid. record { answer = told b sample valid; effect = obeyed b sample valid; none = kept b sample valid };
       undefined = refl;

@@ -2,12 +2,11 @@
 -- Assumes nothing.
 use mathlib.Core.Path.{_≡_, _∙_, refl, sym, ap}
 use mathlib.Core.Bool.{Bool, true, false, cond}
-use mathlib.Core.List.{List, [], _∷_, _++_}
+use mathlib.Core.List.{List, [], _∷_}
 use Prim.Native.Nat.{ℕ, zero, suc, _+_, _/_, _%_, _≤_}
 use native.Mathlib.Omega.{arith}
 use lib.Dec.{eqb, ltb}
-use lib.ListN.{getD, take, replicate, length, drop}
-use lib.Seq.{take-append-add, drop-append-add, getD-append-add}
+use lib.ListN.{getD, replicate}
 use Rattle.frames.specs.declared.Phase.{Phase}
 use Rattle.frames.specs.declared.Phase.the-variants.{Idle, Ident, ReadTo, WriteTo, Reading, Writing, Command, Dead}
 use Rattle.frames.specs.declared.Line.{Line}
@@ -18,10 +17,9 @@ use Rattle.frames.specs.declared.Framed.{Framed}
 use Rattle.frames.specs.Frames as model
 use Rattle.frames.specs.Frames.{framed, address}
 use Rattle.frames.specs.Answers.{act, unfinished, lineNumber}
-use Rattle.chip.specs.declared.Chip.{Chip}
 use Rattle.place.specs.Place.{answerCode}
 use Rattle.state.specs.FrameCodes.{phaseRead, phaseNumber, valueOf, positionOf, phaseIn}
-use Rattle.state.specs.Record.{recordValid, frameBytes, settingsBytes, tailOf, recordOf, chipOf}
+use Rattle.state.specs.Record.{recordValid, tailOf, chipOf}
 use Rattle.state.proofs.BytesLaws.{byte-past}
 use Rattle.state.proofs.TripLaws.{trip}
 use Rattle.state.proofs.ChipLaws.{valid-chip}

@@ -12,6 +12,7 @@ pub mod PinsLaws
 pub mod PowerOn
 pub mod Samples
 pub mod SamplesLaws
+pub mod Sheet
 pub mod Streams
 pub mod Ticks
 pub mod TicksLaws

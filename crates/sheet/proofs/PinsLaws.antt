@@ -7,11 +7,9 @@ use native.Mathlib.Omega.{arith}
 use lib.Dec.{eqb, leb}
 use lib.ListN.{length, getD}
 use Rattle.ground.specs.Bits.{bitNumber, bitAt}
-use Rattle.ground.specs.Values.{agree}
 use Rattle.clock.specs.declared.Timer.{Timer}
-use Rattle.rules.specs.Ticks.{isExt}
 use Rattle.pins.specs.Pins.{asserted, wave}
-use Rattle.state.specs.Selections.{sourceRead, sourceIn, pitchRead, isPitch, pitchIn, irqSourceRead, irqSourceIn}
+use Rattle.state.specs.Selections.{pitchRead, isPitch, pitchIn, irqSourceRead, irqSourceIn}
 use Rattle.state.proofs.CodesLaws.{bit-back}
 
 -- ---- what a code reads to, by the code

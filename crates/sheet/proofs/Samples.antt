@@ -30,7 +30,7 @@ use Rattle.state.proofs.TripLaws.{valid-has}
 use Rattle.simulator.specs.Simulator.{stepReturns, stepBytes}
 use Rattle.sheet.specs.Bytes.{byte}
 use Rattle.sheet.specs.Frames.{OnlyLevels}
-use Rattle.sheet.specs.Samples.{Clocked, Sampled, SampleRules}
+use Rattle.sheet.specs.Samples.{Clocked, Sampled, SamplesSheet}
 use Rattle.sheet.proofs.Frames.{takes, offers}
 use Rattle.sheet.proofs.FramesLaws.{phase-at, count-said}
 use Rattle.sheet.proofs.SamplesLaws.{leaves, only, framed-by, levels-stored, clocked-edge}
@@ -100,9 +100,9 @@ module _ (b : List ℕ) (valid : recordValid b ≡ true) (s : ℕ) (small : s �
         clocked = λ after before. in-frame _ _ (clocked-edge b valid s small after before);
       }
 
-pub sample-rules : SampleRules
+pub samples-sheet : SamplesSheet
 unfolding stepReturns stepBytes
-sample-rules =
+samples-sheet =
     record {
       malformed = λ b s invalid. (rw invalid, rw invalid);
       above = λ b s valid h. (rw (valid, lt-ltb 15 s h), rw (valid, lt-ltb 15 s h));

@@ -12,7 +12,7 @@ use Rattle.chip.proofs.ValidLaws.{advanced-valid}
 use Rattle.state.specs.Record.{settingsOf, recordValid, recordOf, chipOf}
 use Rattle.state.proofs.ChipLaws.{valid-chip, chip-valid, chip-again}
 use Rattle.simulator.specs.Simulator.{advanceReturns, advanceBytes}
-use Rattle.sheet.specs.Ticks.{tick, Ticks, TicksOfBytes}
+use Rattle.sheet.specs.Ticks.{tick, Ticks, TicksSheet}
 use Rattle.sheet.proofs.BytesLaws.{settings-written, bytes-spelt}
 use Rattle.sheet.proofs.TicksLaws.{tick-ticks}
 
@@ -57,5 +57,5 @@ module _ (b : List ℕ) (valid : recordValid b ≡ true) where
         returns = rw valid;
       }
 
-pub ticks-of-bytes : TicksOfBytes
-ticks-of-bytes = ticks-of-record
+pub ticks-sheet : TicksSheet
+ticks-sheet = ticks-of-record

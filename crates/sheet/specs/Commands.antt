@@ -103,6 +103,6 @@ pub record Commands (b : List ℕ) (sample : ℕ) : Type 0 where
   pub none : (NinthBit b sample → ⊥) → drop 40 (stepBytes b sample) ≡ drop 40 b
 
 -- So it is for every one; and 88 of the 256 codes are undefined.
-pub record CommandsOfBytes : Type 0 where
+pub record CommandsSheet : Type 0 where
   pub steps : (b : List ℕ) (sample : ℕ) → recordValid b ≡ true → Commands b sample
   pub undefined : undefinedBelow 256 ≡ 88

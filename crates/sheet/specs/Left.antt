@@ -18,15 +18,15 @@ pub record Keeps (refused : Type 0) (before after : List ℕ) : Type 0 where
   pub kept : refused → after ≡ before
 
 -- A success of so many bytes has them at the start, and leaves every byte after them.
-pub record Writes (stream before : List ℕ) (count : ℕ) (after : List ℕ) : Type 0 where
+pub record StreamLeft (stream before : List ℕ) (count : ℕ) (after : List ℕ) : Type 0 where
   pub room : count ≤ length before
   pub start : take count after ≡ stream
   pub rest : drop count after ≡ drop count before
 
 -- A call for a buffer returns the count, or a number from 2^31 on where it is refused.
-pub record Leaves (stream before : List ℕ) (returned : ℕ) (after : List ℕ) : Type 0 where
+pub record BufferLeft (stream before : List ℕ) (returned : ℕ) (after : List ℕ) : Type 0 where
   pub refusal : Keeps (2147483648 ≤ returned) before after
-  pub success : returned < 2147483648 → Writes stream before returned after
+  pub success : returned < 2147483648 → StreamLeft stream before returned after
 
 -- A call on a record is refused with 28, and besides `step` with 20 and `pins` with 25.
 abbrev pub StepRefused : List ℕ → ℕ → Type 0
@@ -38,11 +38,11 @@ PinsRefused b out = (pinsReturns b out ≡ 28) ⊎ (pinsReturns b out ≡ 25)
 -- Each call, whatever it is asked and lent.
 pub record LeftSheet : Type 0 where
   pub write : (first : ℕ) (nibbles out : List ℕ)
-      → Leaves (writeStream first nibbles) out (writeReturns first nibbles out) (writeBytes first nibbles out)
-  pub read : (first count : ℕ) (out : List ℕ) → Leaves (readStream first count) out (readReturns first count out) (readBytes first count out)
-  pub commands : (codes out : List ℕ) → Leaves (commandStream codes) out (commandsReturns codes out) (commandsBytes codes out)
-  pub decode : (noted out : List ℕ) → Leaves (decoded noted) out (decodeReturns noted out) (decodeBytes noted out)
-  pub powerOn : (memory bytes : List ℕ) → Leaves (freshRecord memory) bytes (powerOnReturns memory bytes) (powerOnBytes memory bytes)
+      → BufferLeft (writeStream first nibbles) out (writeReturns first nibbles out) (writeBytes first nibbles out)
+  pub read : (first count : ℕ) (out : List ℕ) → BufferLeft (readStream first count) out (readReturns first count out) (readBytes first count out)
+  pub commands : (codes out : List ℕ) → BufferLeft (commandStream codes) out (commandsReturns codes out) (commandsBytes codes out)
+  pub decode : (noted out : List ℕ) → BufferLeft (decoded noted) out (decodeReturns noted out) (decodeBytes noted out)
+  pub powerOn : (memory bytes : List ℕ) → BufferLeft (freshRecord memory) bytes (powerOnReturns memory bytes) (powerOnBytes memory bytes)
   pub step : (b : List ℕ) (sample : ℕ) → Keeps (StepRefused b sample) b (stepBytes b sample)
   pub advance : (b : List ℕ) (n : ℕ) → Keeps (advanceReturns b ≡ 28) b (advanceBytes b n)
   pub pins : (b out : List ℕ) → Keeps (PinsRefused b out) out (pinsBytes b out)

@@ -38,7 +38,7 @@ pub record Sampled (b : List ℕ) (s : ℕ) : Type 0 where
   pub clocked : s % 2 ≡ 0 → byte b 32 % 2 ≡ 0 → Clocked b s (rises 1 (byte b 32) s) (falls 2 (byte b 32) s)
 
 -- A call on what is no valid record is refused with 28, then a sample above 15 with 20, and neither changes a byte.
-pub record SampleRules : Type 0 where
+pub record SamplesSheet : Type 0 where
   pub malformed : (b : List ℕ) (s : ℕ) → recordValid b ≡ false → (stepReturns b s ≡ 28) × (stepBytes b s ≡ b)
   pub above : (b : List ℕ) (s : ℕ) → recordValid b ≡ true → 15 < s → (stepReturns b s ≡ 20) × (stepBytes b s ≡ b)
   pub sampled : (b : List ℕ) (s : ℕ) → recordValid b ≡ true → s ≤ 15 → Sampled b s

@@ -53,5 +53,5 @@ pub record Ticks (b : List ℕ) : Type 0 where
   pub valid : recordValid (tick b) ≡ true
   pub returns : advanceReturns b ≡ 0
 
-abbrev pub TicksOfBytes : Type 0
-TicksOfBytes = (b : List ℕ) → recordValid b ≡ true → Ticks b
+abbrev pub TicksSheet : Type 0
+TicksSheet = (b : List ℕ) → recordValid b ≡ true → Ticks b
