@@ -9,8 +9,6 @@ pub mod Determined
 pub mod EventsLaws
 pub mod NotesLaws
 pub mod Ports
-pub mod Ranges
-pub mod RangesLaws
 pub mod ReadLaws
 pub mod RecordLaws
 pub mod Records

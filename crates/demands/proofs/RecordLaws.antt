@@ -27,7 +27,7 @@ use Rattle.simulator.specs.Simulator.{advanceBytes}
 use Rattle.state.proofs.BytesLaws.{memory-bytes, port-bytes, settings-bytes}
 use Rattle.demands.specs.Events.{Event, after, answers, notes}
 use Rattle.demands.specs.Calls.{Call, afterCalls, eventsOf, sent, passed, returns, noted}
-use Rattle.demands.specs.Records.{openingReturns, bitReturns, nibbleReturns, offerReturns, readReturns, commandReturns, noFrame}
+use Rattle.demands.specs.Records.{openingReturns, bitReturns, nibbleReturns, bitOffered, nibblesOffered, commandReturns, noFrame}
 use Rattle.demands.proofs.CallsLaws.{after-valid, cs-byte, count-byte, advance-leaves, calls-leave, calls-tell, calls-note}
 use Rattle.demands.proofs.CommandLaws.{commandsAnswers}
 use Rattle.demands.proofs.Ports.{Sixteen, runP, high, high-answer, after-port}
@@ -47,11 +47,11 @@ unfolding answerCode
 nibbles-told at [] = refl
 nibbles-told at (n ∷ ns) = ap (λ (told : List ℕ). bitReturns 3 ++ 0 ∷ answerCode (Stored at n) ∷ told) (nibbles-told (at + 1) ns)
 
-pub offers-told : (at : ℕ) (vs : List ℕ) → map answerCode (readAnswers at vs) ≡ readReturns at vs
+pub offers-told : (at : ℕ) (vs : List ℕ) → map answerCode (readAnswers at vs) ≡ nibblesOffered at vs
 unfolding answerCode
 offers-told at [] = refl
 offers-told at (v ∷ vs) =
-    ap (λ (told : List ℕ). offerReturns at (bitAt 0 v) ++ offerReturns at (bitAt 1 v) ++ offerReturns at (bitAt 2 v) ++ offerReturns at (bitAt 3 v) ++ told)
+    ap (λ (told : List ℕ). bitOffered at (bitAt 0 v) ++ bitOffered at (bitAt 1 v) ++ bitOffered at (bitAt 2 v) ++ bitOffered at (bitAt 3 v) ++ told)
     (offers-told (at + 1) vs)
 
 obeyed-told : (code : ℕ) → answerCode (Obeyed code) ≡ 6 + 256 * code

@@ -17,7 +17,7 @@ use Rattle.demands.specs.Events.{after, notes, ReadsAs}
 use Rattle.demands.specs.Demand2.{dueCommands, between, Writes, Reads, Commands}
 use Rattle.demands.specs.Demand3.{completed, Survives}
 use Rattle.demands.specs.Calls.{Call, afterCalls, eventsOf, sent, passed, noted, CallsKeepValid}
-use Rattle.demands.specs.Records.{readReturns, CallsWrite, CallsRead, CallsCommand, Demand2OfRecords, Demand3OfRecords}
+use Rattle.demands.specs.Records.{nibblesOffered, CallsWrite, CallsRead, CallsCommand, Demand2OfRecords, Demand3OfRecords}
 use Rattle.demands.proofs.AcceptedLaws.{accepted-write, accepted-read, accepted-commands}
 use Rattle.demands.proofs.CallsLaws.{after-valid, calls-leave, calls-note}
 use Rattle.demands.proofs.CommandLaws.{commandsAnswers}
@@ -67,7 +67,7 @@ reads b first count calls valid accepts e =
       settings = ticks-left b valid calls (done .settings);
       returned =
           told b valid calls small 9 (readAnswers first part) _
-          (offers-told first part ∙ ap (λ (m : List ℕ). readReturns first (take count (drop first m))) said)
+          (offers-told first part ∙ ap (λ (m : List ℕ). nibblesOffered first (take count (drop first m))) said)
           (read-answered (chipOf b) first count (eventsOf calls) v (accepted-read first count accepts) e);
       readBack =
           subst (λ noted. ReadsAs noted (take count (drop first (take 32 b)))) (sym (notes-said b valid calls))

@@ -1,7 +1,7 @@
 -- Demand 2, its first half: which requests are accepted. 01 "Driver streams" has a table of refusals; here it stands call by call,
 -- in the paper's numbers, and each call succeeds exactly where no row holds. For every request, and every room. Assumes nothing.
 use mathlib.Core.Path.{_≡_}
-use mathlib.Core.Bool.{not, _||_}
+use mathlib.Core.Bool.{cond, not, _||_}
 use mathlib.Core.List.{List, [], _∷_}
 use Prim.Native.Nat.{ℕ, _+_, _*_, _/_, _%_}
 use lib.Dec.{eqb, ltb}
@@ -17,7 +17,7 @@ use Rattle.state.specs.Record.{recordValid, chipOf}
 use Rattle.simulator.specs.Simulator.{pinsCode, stepReturns, advanceReturns, pinsReturns}
 use Rattle.driver.specs.Streams.{writeStream, readStream, commandStream}
 use Rattle.driver.specs.Refusals.{writeAnswer, readAnswer, commandAnswer, decodeAnswer}
-use Rattle.host.specs.Host.{powerOnAnswer}
+use Rattle.host.specs.Host.{powerOnAnswer, powerOnReturns, writeReturns, readReturns, commandsReturns, decodeReturns}
 
 -- A row is a test, a number and a place. Writing nibbles from `first` on into a buffer of `room` bytes:
 abbrev pub writeTable : ℕ → List ℕ → ℕ → List Row
@@ -66,6 +66,12 @@ advanceTable bytes = row (not (recordValid bytes)) 28 0 ∷ []
 abbrev pub pinsTable : List ℕ → List ℕ → List Row
 pinsTable bytes cells = row (not (recordValid bytes)) 28 0 ∷ row (ltb (length cells) 32) 25 0 ∷ []
 
+-- What a call of the maker's library returns by its table: the size where no test holds, and else 2^31 + 256 x place + number of
+-- the first row whose test does.
+abbrev pub codeBy : List Row → ℕ → ℕ
+codeBy [] size = size
+codeBy (first ∷ rows) size = cond (first .holds) (2147483648 + 256 * first .place + first .number) (codeBy rows size)
+
 pub record Accepted : Type 0 where
   pub write : (first : ℕ) (nibbles : List ℕ) (room : ℕ)
       → AsTabled (writeTable first nibbles room) (21 + 8 * length nibbles) (writeAnswer first nibbles room)
@@ -73,6 +79,15 @@ pub record Accepted : Type 0 where
   pub commands : (codes : List ℕ) (room : ℕ) → AsTabled (commandTable codes room) (9 + 18 * length codes) (commandAnswer codes room)
   pub decode : (noted : List ℕ) (room : ℕ) → AsTabled (decodeTable noted room) (length noted / 4) (decodeAnswer noted room)
   pub powerOn : (memory : List ℕ) (room : ℕ) → AsTabled (powerOnTable memory room) 64 (powerOnAnswer memory room)
+  -- the same through the calls for C
+  pub writeCall : (first : ℕ) (nibbles out : List ℕ)
+      → writeReturns first nibbles out ≡ codeBy (writeTable first nibbles (length out)) (21 + 8 * length nibbles)
+  pub readCall : (first count : ℕ) (out : List ℕ)
+      → readReturns first count out ≡ codeBy (readTable first count (length out)) (21 + 8 * count)
+  pub commandsCall : (codes out : List ℕ) → commandsReturns codes out ≡ codeBy (commandTable codes (length out)) (9 + 18 * length codes)
+  pub decodeCall : (noted out : List ℕ) → decodeReturns noted out ≡ codeBy (decodeTable noted (length out)) (length noted / 4)
+  pub powerOnCall : (memory bytes : List ℕ) → powerOnReturns memory bytes ≡ codeBy (powerOnTable memory (length bytes)) 64
+  -- and the numbers of the calls on a record
   pub step : (bytes : List ℕ) (sample : ℕ)
       → stepReturns bytes sample ≡ numberBy (stepTable bytes sample) (answerCode (stepped (chipOf bytes) sample .answer))
   pub advance : (bytes : List ℕ) → advanceReturns bytes ≡ numberBy (advanceTable bytes) 0

@@ -4,6 +4,5 @@ pub mod Cases
 pub mod Demand2
 pub mod Demand3
 pub mod Events
-pub mod Ranges
 pub mod Records
 pub mod Rehearsal

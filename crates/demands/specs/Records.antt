@@ -34,14 +34,14 @@ nibbleReturns at [] = 2 ∷ []
 nibbleReturns at (nibble ∷ nibbles) = bitReturns 3 ++ 0 ∷ (5 + 256 * at + 65536 * nibble) ∷ nibbleReturns (at + 1) nibbles
 
 -- The four bits of a nibble are offered, D0 first.
-abbrev pub offerReturns : ℕ → Bool → List ℕ
-offerReturns at bit = (8 + 256 * at + 65536 * bitNumber bit) ∷ 0 ∷ []
+abbrev pub bitOffered : ℕ → Bool → List ℕ
+bitOffered at bit = (8 + 256 * at + 65536 * bitNumber bit) ∷ 0 ∷ []
 
-abbrev pub readReturns : ℕ → List ℕ → List ℕ
-readReturns at [] = 2 ∷ []
-readReturns at (nibble ∷ nibbles) =
-    offerReturns at (bitAt 0 nibble) ++ offerReturns at (bitAt 1 nibble)
-    ++ offerReturns at (bitAt 2 nibble) ++ offerReturns at (bitAt 3 nibble) ++ readReturns (at + 1) nibbles
+abbrev pub nibblesOffered : ℕ → List ℕ → List ℕ
+nibblesOffered at [] = 2 ∷ []
+nibblesOffered at (nibble ∷ nibbles) =
+    bitOffered at (bitAt 0 nibble) ++ bitOffered at (bitAt 1 nibble)
+    ++ bitOffered at (bitAt 2 nibble) ++ bitOffered at (bitAt 3 nibble) ++ nibblesOffered (at + 1) nibbles
 
 -- The ninth bit of a command completes it.
 abbrev pub commandReturns : List ℕ → List ℕ
@@ -64,7 +64,7 @@ pub record CallsWrite (bytes : List ℕ) (first : ℕ) (nibbles : List ℕ) (cal
 pub record CallsRead (bytes : List ℕ) (first count : ℕ) (calls : List Call) : Type 0 where
   pub port : take 40 (afterCalls bytes calls) ≡ take 32 bytes ++ noFrame
   pub settings : drop 40 (afterCalls bytes calls) ≡ drop 40 (advanceBytes bytes (passed calls))
-  pub returned : returns bytes calls ≡ openingReturns bytes ++ bitReturns 9 ++ readReturns first (take count (drop first (take 32 bytes)))
+  pub returned : returns bytes calls ≡ openingReturns bytes ++ bitReturns 9 ++ nibblesOffered first (take count (drop first (take 32 bytes)))
   pub readBack : ReadsAs (noted bytes calls) (take count (drop first (take 32 bytes)))
 
 -- Commands leave the memory, and bytes 40 to 63 as their effects, each at its sample, and the ticks between them make them.

@@ -25,7 +25,8 @@ stopped (Written count) chip stop pause stream = after chip (paced pause (take s
 stopped (Refused why) chip stop pause stream = chip
 
 -- The driver's answer and its bytes, and the chip at the stop.
-pub record Rehearses (chip : Chip) (first : ℕ) (nibbles : List ℕ) (stop pause : ℕ) (before : List ℕ) (r : Rehearsed) (after' : List ℕ) : Type 0 where
+pub record Rehearses (chip : Chip) (first : ℕ) (nibbles : List ℕ) (stop pause : ℕ) (before : List ℕ)
+    (r : Rehearsed) (after' : List ℕ) : Type 0 where
   pub answer : r .answer ≡ writeAnswer first nibbles (length before)
   pub bytes : after' ≡ left (writeAnswer first nibbles (length before)) (writeStream first nibbles) before
   pub end : r .chip ≡ stopped (writeAnswer first nibbles (length before)) chip stop pause (writeStream first nibbles)

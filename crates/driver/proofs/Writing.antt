@@ -9,7 +9,7 @@ use native.Mathlib.Numerals.{add-one}
 use lib.ListN.{length, set, length-append, take-append-drop}
 use lib.Seq.{sets-eq}
 use Rattle.ground.specs.Written.{Wrote}
-use Rattle.ground.proofs.WrittenLaws.{length-over, set-over, wrote-then}
+use Rattle.ground.proofs.WrittenLaws.{length-over, set-over, wrote-none, wrote-then}
 
 -- two stores side by side
 pub wrote-pair : (buffer : List ℕ) (at low high : ℕ) → at + 2 ≤ length buffer
@@ -20,14 +20,6 @@ wrote-pair buffer at low high h = record { cursor = refl; buffer = rw add-one (s
 pub wrote-one : (buffer : List ℕ) (at byte : ℕ) → at + 1 ≤ length buffer
     → Wrote buffer at (byte ∷ []) (set buffer at byte) (at + 1)
 wrote-one buffer at byte h = record { cursor = refl; buffer = set-over buffer at byte (omega arith) }
-
--- no store
-pub wrote-none : (buffer : List ℕ) (at : ℕ) → Wrote buffer at [] buffer at
-wrote-none buffer at =
-    record {
-      cursor = sym (add-zero at);
-      buffer = sym (simp (append-nil, add-zero) (take-append-drop at buffer));
-    }
 
 -- a write leaves the buffer as long as it was
 pub wrote-length : {before bytes after : List ℕ} {at next : ℕ} → Wrote before at bytes after next

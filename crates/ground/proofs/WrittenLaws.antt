@@ -3,9 +3,9 @@ use mathlib.Core.Path.{_≡_, ap, sym, _∙_}
 use mathlib.Core.List.{List, [], _∷_, _++_, append-assoc, append-nil}
 use Prim.Native.Nat.{ℕ, suc, _+_, _≤_, _<_}
 use native.Mathlib.Omega.{arith}
-use native.Mathlib.Nat.{zero-add}
+use native.Mathlib.Nat.{add-zero, zero-add}
 use native.Mathlib.Numerals.{add-one}
-use lib.ListN.{length, take, drop, getD, set, replicate, length-append, drop-of-length-le}
+use lib.ListN.{length, take, drop, getD, set, replicate, length-append, take-append-drop, drop-of-length-le}
 use lib.Seq.{paste, paste-suc, take-all, length-paste, take-paste, drop-paste, take-length, set-split, append-snoc, drop-drop}
 use Rattle.ground.specs.Written.{over, Wrote, first32}
 
@@ -47,6 +47,11 @@ over-over buffer first second at h =
     ap (λ (x : List ℕ). x ++ second ++ drop (at + length first + length second) (over buffer at first)) head
     ∙ ap (λ (x : List ℕ). take at buffer ++ first ++ second ++ x) (tail ∙ ap (λ (n : ℕ). drop n buffer) sum)
     ∙ ap (λ (x : List ℕ). x ++ drop (at + length (first ++ second)) buffer) (append-assoc (take at buffer) first second)
+
+-- a write of nothing
+pub wrote-none : (buffer : List ℕ) (at : ℕ) → Wrote buffer at [] buffer at
+wrote-none buffer at =
+    record { cursor = sym (add-zero at); buffer = sym (simp (append-nil, add-zero) (take-append-drop at buffer)) }
 
 -- one write after another
 pub wrote-then : {a b c : List ℕ} (first second : List ℕ) {at k m : ℕ} → Wrote a at first b k → Wrote b k second c m

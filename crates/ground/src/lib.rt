@@ -1,5 +1,6 @@
-// What every crate above shares: the refusals of 01 and their numbers; what it means that a contract determines its
-// result; bits and bytes written over a buffer; and how one computed test becomes a law. Assumes nothing.
+// What every crate above shares: the refusals of 01 and their numbers; what a call that writes bytes comes to; what it means
+// that a contract determines its result; bits and bytes written over a buffer; and how one computed test becomes a law.
+// Assumes nothing.
 ghost use mathlib.Core.Path.{_≡_};
 ghost use lib.Dec.{ltb};
 ghost use Rattle.ground.specs.Places.{lowest};

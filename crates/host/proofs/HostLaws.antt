@@ -19,7 +19,7 @@ use Rattle.ground.specs.Refusals.{refusalPlace}
 use Rattle.chip.specs.declared.PoweredOn.{PoweredOn}
 use Rattle.chip.specs.declared.Start.{Start}
 use Rattle.chip.specs.declared.Start.the-variants as start
-use Rattle.chip.specs.PowerOn.{freshChip, emptyChip, notStarted, poweredOn}
+use Rattle.chip.specs.PowerOn.{startPlace, freshChip, emptyChip, notStarted, poweredOn}
 use Rattle.chip.specs.Valid.{Nibbles, Valid}
 use Rattle.chip.proofs.ValidLaws.{freshChip-valid}
 use Rattle.state.specs.Record.{recordValid}
@@ -39,14 +39,9 @@ module _ {due : Outcome} {stream before after : List ℕ} {r : Outcome} (comes :
 
 -- ---- power-on
 
--- the place where a start is refused
-abbrev placeOf : Start → ℕ
-placeOf start.On = 0
-placeOf (start.Refused why) = refusalPlace why
-
 -- Power-on is refused at a low place, and the chip that it hands out is valid, refused or not.
 record Started (powered : PoweredOn) : Type 0 where
-  place : placeOf (powered .answer) ≤ 128
+  place : startPlace (powered .answer) ≤ 128
   valid : Valid (powered .chip)
 
 nibbles-from : (memory : List ℕ) → ((k : ℕ) → k < length memory → getD memory k 0 ≤ 15) → Nibbles memory

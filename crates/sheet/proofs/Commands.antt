@@ -1,13 +1,14 @@
 -- Commands of bytes: the ninth bit makes of a valid record what the command means to the settings that it says. Assumes nothing.
 use mathlib.Core.Path.{_≡_, _∙_, refl, sym, ap, ap₂, subst}
-use mathlib.Core.Bool.{Bool, true, false, cond}
+use mathlib.Core.Bool.{Bool, true, false, cond, not}
 use mathlib.Core.List.{List}
 use Prim.Native.Nat.{ℕ, _+_, _*_, _%_, _^_, _≤_, _<_}
 use native.Mathlib.Omega.{arith}
 use lib.Dec.{eqb, ltb}
 use lib.ListN.{drop, getD}
 use borrow.Author.Tests.{le-ltb, ltb-false}
-use Rattle.commands.specs.Commands.{byteMeaning}
+use Rattle.ground.specs.Values.{values, agree}
+use Rattle.commands.specs.Commands.{byteMeaning, codeMeaning, commandFault}
 use Rattle.frames.specs.declared.Edge.{Edge}
 use Rattle.frames.specs.declared.Edge.the-variants.{Takes}
 use Rattle.frames.specs.declared.Phase.{Phase}
@@ -147,9 +148,20 @@ module _ (b : List ℕ) (sample : ℕ) (valid : recordValid b ≡ true) where
           (λ bit z code eight. never (is-ninth low bit z code eight)))
           ∙ sym settled-said
 
+-- what the driver refuses, and the ninth bit, code by code
+faults : values commandFault 0 256 ≡ values (λ c. not (defined c)) 0 256
+unfolding commandFault codeMeaning byteMeaning
+faults = refl
+
+ninths : values (λ (c : ℕ). codeMeaning (2 * c + 1)) 0 256 ≡ values (λ (c : ℕ). codeMeaning (2 * c)) 0 256
+unfolding codeMeaning byteMeaning
+ninths = refl
+
 pub commands-sheet : CommandsSheet
 commands-sheet =
     record {
       steps = λ b sample valid. record { answer = told b sample valid; effect = obeyed b sample valid; none = kept b sample valid };
       undefined = refl;
+      refused = λ code low. agree commandFault (λ (c : ℕ). not (defined c)) 256 faults code low;
+      ninth = λ code low. agree (λ (c : ℕ). codeMeaning (2 * c + 1)) (λ (c : ℕ). codeMeaning (2 * c)) 256 ninths code low;
     }

@@ -72,7 +72,7 @@ pins-keep b out = by (recordValid b) (ltb (length out) 32) refl refl
     by false short e f = unchanged (rw e)
     by true true e f = unchanged (rw (e, f))
     by true false e f =
-        let told = pins-sheet b out e (ltb-false (length out) 32 f) in
+        let told = pins-sheet .calls b out e (ltb-false (length out) 32 f) in
         let line = within b (valid-has b e) 39 (omega arith) in
         let few : pinsReturns b out ≤ 23 =
         omega (arith, told .returned, line, bit-small (irqIsLow b), bit-small (sounds b && toneIsHigh b), bit-small (sounds b && not (toneIsHigh b))) in

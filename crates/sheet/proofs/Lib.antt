@@ -10,6 +10,8 @@ pub mod NinthBitLaws
 pub mod Pins
 pub mod PinsLaws
 pub mod PowerOn
+pub mod Ranges
+pub mod RangesLaws
 pub mod Samples
 pub mod SamplesLaws
 pub mod Sheet

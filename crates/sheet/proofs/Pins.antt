@@ -1,5 +1,5 @@
 -- The pins by the bytes of a record: each pin of the model is the paper's test of the bytes that say its settings. Assumes nothing.
-use mathlib.Core.Path.{_≡_, _∙_, sym, ap}
+use mathlib.Core.Path.{_≡_, _∙_, refl, sym, ap}
 use mathlib.Core.Bool.{Bool, true, _&&_}
 use mathlib.Core.List.{List, map}
 use Prim.Native.Nat.{ℕ, _+_, _≤_}
@@ -21,7 +21,7 @@ use Rattle.state.proofs.RangesLaws.{each-of-5}
 use Rattle.state.proofs.TripLaws.{RecordHas, valid-has, within}
 use Rattle.simulator.specs.Simulator.{pinsCode, pinsReturns, pinsBytes}
 use Rattle.sheet.specs.Bytes.{byte, runs}
-use Rattle.sheet.specs.Pins.{irqIsLow, sounds, toneIsHigh, cellShows, pinsNumber, PinsTold, PinsSheet}
+use Rattle.sheet.specs.Pins.{irqIsLow, sounds, toneIsHigh, cellShows, pinsNumber, PinsTold, PinsShown, PinsSheet}
 use Rattle.sheet.proofs.BytesLaws.{bytes-spelt, runs-running}
 use Rattle.sheet.proofs.PinsLaws.{irq-code, pitch-code, nibble-small, nibble-bit, map-at}
 
@@ -105,5 +105,9 @@ module _ (b : List ℕ) (valid : recordValid b ≡ true) where
               ∙ drop-over out cells 0 (omega (arith, cells-32)) ∙ ap (λ (n : ℕ). drop n out) all;
         }
 
+  shown : PinsShown b
+  unfolding pinsShown chipOf bzHigh partnerHigh
+  shown = record { irq = irq-low; bz = rw (sounding-sounds, tone-high) refl; partner = rw (sounding-sounds, tone-high) refl }
+
 pub pins-sheet : PinsSheet
-pins-sheet b out valid room = told b valid out room
+pins-sheet = record { calls = λ b out valid room. told b valid out room; model = λ b valid. shown b valid }

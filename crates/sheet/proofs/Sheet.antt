@@ -7,6 +7,7 @@ use Rattle.sheet.proofs.Ticks.{ticks-sheet}
 use Rattle.sheet.proofs.Pins.{pins-sheet}
 use Rattle.sheet.proofs.Streams.{streams-sheet}
 use Rattle.sheet.proofs.Left.{left-sheet}
+use Rattle.sheet.proofs.Ranges.{ranges-sheet}
 
 pub sheet : Sheet
 sheet =
@@ -18,4 +19,5 @@ sheet =
       pins = pins-sheet;
       streams = streams-sheet;
       left = left-sheet;
+      ranges = ranges-sheet;
     }

@@ -3,11 +3,7 @@ use mathlib.Core.Bool.{Bool, _||_}
 use mathlib.Core.List.{List}
 use Prim.Native.Nat.{ℕ}
 use lib.Dec.{eqb}
-use lib.ListN.{getD}
-
--- Byte i.
-abbrev pub byte : List ℕ → ℕ → ℕ
-byte b i = getD b i 0
+pub use Rattle.state.specs.Record.{byte}
 
 -- 01 "Ticks": running is the system on, byte 40, or EXT selected, byte 41.
 abbrev pub runs : List ℕ → Bool

@@ -3,13 +3,15 @@
 use mathlib.Core.Path.{_≡_}
 use mathlib.Core.Bool.{Bool, true, false, cond, not, _&&_, _||_}
 use mathlib.Core.List.{List, [], _∷_}
-use Prim.Native.Nat.{ℕ, zero, suc, _+_, _*_, _/_, _%_, _≤_}
+use Prim.Native.Nat.{ℕ, zero, suc, _+_, _*_, _/_, _%_, _≤_, _<_}
 use lib.Dec.{eqb, leb}
 use lib.ListN.{drop, set}
 use Rattle.ground.specs.Bits.{bitAt}
+use Rattle.commands.specs.Commands.{codeMeaning, commandFault}
 use Rattle.state.specs.Record.{recordValid}
 use Rattle.simulator.specs.Simulator.{stepReturns, stepBytes}
 use Rattle.sheet.specs.Bytes.{byte}
+use Rattle.sheet.specs.Samples.{rises, falls}
 
 -- A row of the table: the codes from the first to the last, and what such a command makes of a record.
 pub record Codes : Type 0 where
@@ -92,8 +94,8 @@ pub record NinthBit (b : List ℕ) (sample : ℕ) : Type 0 where
   pub phase : byte b 33 ≡ 6
   pub count : byte b 34 ≡ 8
   pub cs : bitAt 0 sample ≡ false
-  pub wr : (not (bitAt 1 (byte b 32)) && bitAt 1 sample) ≡ true
-  pub rd : (bitAt 2 (byte b 32) && not (bitAt 2 sample)) ≡ false
+  pub wr : rises 1 (byte b 32) sample ≡ true
+  pub rd : falls 2 (byte b 32) sample ≡ false
 
 -- A step on a valid record. With the ninth bit it returns 6, or 7 for an undefined code, and the code, which byte 35 holds;
 -- and bytes 40 to 63 are as the table has them. Any other sample leaves these as they were.
@@ -102,7 +104,10 @@ pub record Commands (b : List ℕ) (sample : ℕ) : Type 0 where
   pub effect : NinthBit b sample → drop 40 (stepBytes b sample) ≡ drop 40 (effectOf (byte b 35) b)
   pub none : (NinthBit b sample → ⊥) → drop 40 (stepBytes b sample) ≡ drop 40 b
 
--- So it is for every one; and 88 of the 256 codes are undefined.
+-- So it is for every one; 88 of the 256 codes are undefined, and those are what the driver refuses; and the ninth bit decides
+-- nothing.
 pub record CommandsSheet : Type 0 where
   pub steps : (b : List ℕ) (sample : ℕ) → recordValid b ≡ true → Commands b sample
   pub undefined : undefinedBelow 256 ≡ 88
+  pub refused : (code : ℕ) → code < 256 → commandFault code ≡ not (defined code)
+  pub ninth : (code : ℕ) → code < 256 → codeMeaning (2 * code + 1) ≡ codeMeaning (2 * code)

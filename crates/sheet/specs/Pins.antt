@@ -6,7 +6,8 @@ use Prim.Native.Nat.{ℕ, _+_, _*_, _%_, _≤_}
 use lib.Dec.{eqb, ltb, leb}
 use lib.ListN.{length, drop}
 use Rattle.ground.specs.Bits.{bitAt, bitNumber}
-use Rattle.state.specs.Record.{recordValid}
+use Rattle.chip.specs.Pins.{pinsShown}
+use Rattle.state.specs.Record.{recordValid, chipOf}
 use Rattle.simulator.specs.Simulator.{pinsReturns, pinsBytes}
 use Rattle.sheet.specs.Bytes.{byte, runs}
 
@@ -41,6 +42,13 @@ pub record PinsTold (b out : List ℕ) : Type 0 where
   pub cells : (s c : ℕ) → s ≤ 31 → c ≤ 3 → bitAt c (byte (pinsBytes b out) s) ≡ cellShows b s c
   pub rest : drop 32 (pinsBytes b out) ≡ drop 32 out
 
+-- The model's own pins, of the chip that the bytes say.
+pub record PinsShown (b : List ℕ) : Type 0 where
+  pub irq : pinsShown (chipOf b) .irq ≡ irqIsLow b
+  pub bz : pinsShown (chipOf b) .bz ≡ (sounds b && toneIsHigh b)
+  pub partner : pinsShown (chipOf b) .partner ≡ (sounds b && not (toneIsHigh b))
+
 -- So of every valid record and every buffer that has room.
-abbrev pub PinsSheet : Type 0
-PinsSheet = (b out : List ℕ) → recordValid b ≡ true → 32 ≤ length out → PinsTold b out
+pub record PinsSheet : Type 0 where
+  pub calls : (b out : List ℕ) → recordValid b ≡ true → 32 ≤ length out → PinsTold b out
+  pub model : (b : List ℕ) → recordValid b ≡ true → PinsShown b

@@ -1,5 +1,5 @@
--- The rules of 01 in its order, each said of the bytes and the calls alone; together they are what a host in C can hold the chip
--- and the driver to. Assumes nothing.
+-- The rules of 01 in its order, of the bytes, the calls and the streams; together they are what a host in C can hold the chip and
+-- the driver to. The table of refusals is in crates/demands (Accepted.antt), the listing in crates/transcript. Assumes nothing.
 use Rattle.sheet.specs.Samples.{SamplesSheet}
 use Rattle.sheet.specs.Commands.{CommandsSheet}
 use Rattle.sheet.specs.PowerOn.{PowerOnSheet}
@@ -7,6 +7,7 @@ use Rattle.sheet.specs.Ticks.{TicksSheet}
 use Rattle.sheet.specs.Pins.{PinsSheet}
 use Rattle.sheet.specs.Streams.{StreamsSheet}
 use Rattle.sheet.specs.Left.{LeftSheet}
+use Rattle.sheet.specs.Ranges.{RangesSheet}
 
 pub record Sheet : Type 0 where
   pub samples : SamplesSheet
@@ -16,3 +17,4 @@ pub record Sheet : Type 0 where
   pub pins : PinsSheet
   pub streams : StreamsSheet
   pub left : LeftSheet
+  pub ranges : RangesSheet

@@ -15,7 +15,7 @@ use Rattle.ground.specs.declared.Outcome.the-variants.{Written, Refused}
 use Rattle.ground.specs.Outcomes.{ComesTo}
 use Rattle.ground.specs.Written.{Wrote}
 use Rattle.ground.proofs.ChoiceLaws.{either, by-cases}
-use Rattle.ground.proofs.WrittenLaws.{wrote-then}
+use Rattle.ground.proofs.WrittenLaws.{wrote-none, wrote-then}
 use Rattle.frames.specs.declared.Answer.{Answer}
 use Rattle.frames.specs.Answers.{answerNumber, firstDetail, secondDetail}
 use Rattle.chip.specs.declared.Chip.{Chip}
@@ -131,20 +131,15 @@ end-wrote samples ticks p q r fits =
     (wrote-then end (field samples space) p q (omega (arith, length-field samples space))) r
     (omega (arith, length-field ticks newline))
 
--- no bytes at all
-nothing-wrote : (buffer : List ℕ) (at : ℕ) → Wrote buffer at [] buffer at
-nothing-wrote buffer at =
-    record { cursor = omega arith; buffer = sym (rw (append-nil, add-zero) (take-append-drop at buffer)) }
-
 module _ (buffer : List ℕ) (at number kind : ℕ) (answer : Answer) (same : kind ≡ answerNumber answer) where
   -- an answer that has no line
   pub answer-unlisted : kind ≡ 0 → Wrote buffer at (answerLine number answer) buffer at
   unfolding answerLine
-  answer-unlisted e = rw (eq-eqb _ _ (sym same ∙ e)) (nothing-wrote buffer at)
+  answer-unlisted e = rw (eq-eqb _ _ (sym same ∙ e)) (wrote-none buffer at)
 
   pub taken-unlisted : (kind ≡ 0 → ⊥) → kind ≡ 4 → Wrote buffer at (answerLine number answer) buffer at
   unfolding answerLine
-  taken-unlisted some e = rw (sym same ∙ e) (nothing-wrote buffer at)
+  taken-unlisted some e = rw (sym same ∙ e) (wrote-none buffer at)
 
   -- and one that has one
   pub answer-listed : (first second : ℕ) {after : List ℕ} {k : ℕ} → (kind ≡ 0 → ⊥) → (kind ≡ 4 → ⊥)

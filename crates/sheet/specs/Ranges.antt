@@ -57,6 +57,6 @@ pub record WellFormed (bytes : List ℕ) : Type 0 where
   pub rest : (byte bytes 33 ≡ 4 → ⊥) → (byte bytes 33 ≡ 5 → ⊥) → (byte bytes 37 ≡ 0) × (byte bytes 38 ≡ 0) × (byte bytes 39 ≡ 0)
 
 -- These and no others are valid.
-abbrev pub ValidExactly : Type 0
-ValidExactly =
+abbrev pub RangesSheet : Type 0
+RangesSheet =
     (bytes : List ℕ) → (recordValid bytes ≡ true → WellFormed bytes) × (WellFormed bytes → recordValid bytes ≡ true)

@@ -16,7 +16,7 @@ use Rattle.state.specs.Record.{upTo, maxima, mostBits, goesWithCs, bitsRight, r
 use Rattle.state.proofs.RangesLaws.{and-both}
 use Rattle.state.proofs.RecordLaws.{most-small, upTo-parts}
 use Rattle.state.proofs.TripLaws.{gathered}
-use Rattle.demands.specs.Ranges.{WellFormed}
+use Rattle.sheet.specs.Ranges.{WellFormed}
 
 -- ---- a selection's codes read to a case
 

@@ -15,8 +15,8 @@ use Rattle.state.specs.Record.{maxima, mostBits, goesWithCs, restRight, byte, v
 use Rattle.state.proofs.RangesLaws.{each-of-5}
 use Rattle.state.proofs.FramesLaws.{FrameHas, frame-has, frame-zeros}
 use Rattle.state.proofs.TripLaws.{RecordHas, valid-has, within}
-use Rattle.demands.specs.Ranges.{WellFormed, ValidExactly}
-use Rattle.demands.proofs.RangesLaws.{well-formed-valid}
+use Rattle.sheet.specs.Ranges.{WellFormed, RangesSheet}
+use Rattle.sheet.proofs.RangesLaws.{well-formed-valid}
 
 never : {A : Type 0} → false ≡ true → A
 never e = let no : ⊥ = subst T (sym e) tt in absurd no
@@ -132,5 +132,5 @@ module _ (bytes : List ℕ) (valid : recordValid bytes ≡ true) where
         rest = zeros-outside (byte bytes 33) (byte bytes 37) (byte bytes 38) (byte bytes 39) (frame .rest);
       }
 
-pub valid-exactly : ValidExactly
-valid-exactly bytes = (well-formed bytes, well-formed-valid bytes)
+pub ranges-sheet : RangesSheet
+ranges-sheet bytes = (well-formed bytes, well-formed-valid bytes)
