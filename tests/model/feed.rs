@@ -3,11 +3,11 @@
 // build: rustc -O feed.rs
 // run:   ./feed 1621 > crates/vectors/stdin
 
-mod captures;
 mod feed_calls;
 mod feed_chip;
+mod random;
 
-use captures::Random;
+use random::Random;
 
 // Some bytes of a record, by place and value.
 type Bytes<'a> = &'a [(usize, u8)];
@@ -126,13 +126,16 @@ fn main() {
     let mut script = Script { lines: Vec::new(), list: vec![255] };
     feed_chip::codes(&mut script);
     feed_chip::ticks(&mut script);
-    feed_chip::pins(&mut script);
+    feed_chip::rates_and_flag(&mut script);
+    feed_chip::tone_and_irq(&mut script);
+    feed_chip::data_and_cells(&mut script);
     feed_chip::levels(&mut script);
     feed_chip::frames(&mut script);
     feed_chip::wild(&mut random, &mut script);
     feed_calls::limits(&mut script);
     feed_calls::couplings(&mut script);
     feed_calls::streams(&mut script);
+    feed_calls::refused_streams(&mut script);
     feed_calls::sent_commands(&mut script);
     feed_calls::noted_and_power_on(&mut script);
     println!("{}", script.lines.join("\n"));
