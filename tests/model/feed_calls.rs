@@ -13,6 +13,9 @@ pub fn limits(script: &mut Script) {
     for place in 0..32 {
         script.lend('p', &changed(&write, &[(place, 16)]), 32);
     }
+    for nibble in [0, 14, 15] {
+        script.lend('p', &[&[nibble; 32], &write[32..]].concat(), 32);
+    }
     let values: [(usize, &[u8]); 26] = [
         (0, &[15, 16]), (1, &[16]), (31, &[15, 16, 128]), (32, &[0, 14, 16, 18, 30, 254]),
         (33, &[4, 5, 8, 12, 255]), (37, &[31, 32, 255]), (38, &[3, 4, 255]), (39, &[2, 3, 255]),
