@@ -26,6 +26,12 @@ fn codes() -> String {
     closed(&format!("100{bits}"))
 }
 
+// A write in which DATA changes with each WR rise.
+fn late_data() -> String {
+    let pair = |bit| if bit == '1' { "4e" } else { "c6" };
+    "fe".to_string() + &"1010001011001".chars().map(pair).collect::<String>() + "f"
+}
+
 // Every sample after every other.
 fn pairs() -> Vec<String> {
     (0..16).map(|before| (0..16).map(|after| digits(&[before, after])).collect()).collect()
@@ -51,8 +57,7 @@ pub fn capture(random: &mut Random) -> String {
     lines.extend(memory());
     lines.extend(FRAMES.map(closed));
     lines.extend(FRAMES.map(|text| open(text) + " t"));
-    lines.push(String::new());
-    lines.push(codes());
+    lines.extend([String::new(), late_data(), codes()]);
     lines.extend(pairs());
     let samples = |lines: &[String]| lines.iter().flat_map(|line| line.bytes()).filter(u8::is_ascii_hexdigit).count();
     while samples(&lines) < 10_100 {

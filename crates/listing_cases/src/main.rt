@@ -52,6 +52,20 @@ fn bad_line() -> bool {
     listed_as(b"Afe", b"bad 0\n")
 }
 
+// Whether the bytes beside the digits and beside the letters are bad.
+fn bad_neighbour() -> bool {
+    if !listed_as(b"f/", b"bad 1\n") {
+        return false;
+    }
+    if !listed_as(b"f:", b"bad 1\n") {
+        return false;
+    }
+    if !listed_as(b"f`", b"bad 1\n") {
+        return false;
+    }
+    listed_as(b"fg", b"bad 1\n")
+}
+
 // Whether an input without a line of its own is counted.
 fn last_line() -> bool {
     listed_as(b"t t\n", b"end 0 2\n")
@@ -63,6 +77,9 @@ fn fixed_lines() -> bool {
         return false;
     }
     if !bad_line() {
+        return false;
+    }
+    if !bad_neighbour() {
         return false;
     }
     last_line()
