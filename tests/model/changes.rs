@@ -6,7 +6,10 @@ use std::{collections::BTreeMap, env, fs};
 
 const SOURCES: [&str; 2] = ["model.rs", "due.rs"];
 
-/// One change: its name, why no vector can see it where that is so, and its edits.
+// The items of model.rs that say which records are valid.
+const VALIDITY: [&str; 3] = ["pub fn valid(", "fn in_range(", "fn most_unfinished("];
+
+/// One change: its name, why nothing can see it where that is so, and its edits.
 struct Change {
     name: String,
     unseen: Option<String>,
@@ -46,6 +49,12 @@ fn edit(text: &str) -> Edit {
     let (file, item) = place.split_once(": ").unwrap_or((SOURCES[0], place));
     assert!(SOURCES.contains(&file), "{text}: no such file");
     Edit { file: file.to_string(), item: item.to_string(), line: line.to_string() }
+}
+
+// A change as measure.rs has it: its name, whether nothing can see it, and whether it is of which records are valid.
+fn named(change: &Change) -> String {
+    let validity = change.edits.iter().any(|edit| VALIDITY.contains(&&edit.item[..]));
+    format!("    ({:?}, {}, {validity}),\n", change.name, change.unseen.is_some())
 }
 
 // Where a text stands in another, if it stands there once.
@@ -117,6 +126,6 @@ fn main() {
         }
         fs::write(format!("{folder}/{file}"), built(&source, (0, source.len()), &replaced)).expect("a file written");
     }
-    let names: String = all.iter().map(|change| format!("    ({:?}, {}),\n", change.name, change.unseen.is_some())).collect();
-    fs::write(format!("{folder}/names.rs"), format!("pub const NAMES: &[(&str, bool)] = &[\n{names}];\n")).expect("a file written");
+    let names: String = all.iter().map(named).collect();
+    fs::write(format!("{folder}/names.rs"), format!("pub const NAMES: &[(&str, bool, bool)] = &[\n{names}];\n")).expect("a file written");
 }

@@ -1,13 +1,16 @@
-// Writes the script that crates/vectors answers: feed SEED. Its requests are made so that every rule of the paper that is
-// made wrong changes an answer; changes.txt lists such changes, and the measure holds the script to them.
+// Writes the script that crates/vectors answers: feed SEED; or the capture that crates/listing lists: feed SEED listing. They
+// are made so that every rule of the paper that is made wrong changes an answer; changes.txt lists such changes, and the
+// measure holds them to it.
 // build: rustc -O feed.rs
 // run:   ./feed 1621 > crates/vectors/stdin
+//        ./feed 1621 listing > crates/listing/stdin
 
-mod captures;
 mod feed_calls;
 mod feed_chip;
+mod feed_listing;
+mod random;
 
-use captures::Random;
+use random::Random;
 
 // Some bytes of a record, by place and value.
 type Bytes<'a> = &'a [(usize, u8)];
@@ -120,20 +123,32 @@ fn changed(record: &[u8], changes: Bytes) -> Vec<u8> {
     bytes
 }
 
-fn main() {
-    let seed = std::env::args().nth(1).expect("feed SEED");
-    let mut random = Random(seed.parse::<u64>().expect("a seed is a number") * 2 + 1);
+// The script.
+fn script(random: &mut Random) -> String {
     let mut script = Script { lines: Vec::new(), list: vec![255] };
     feed_chip::codes(&mut script);
     feed_chip::ticks(&mut script);
-    feed_chip::pins(&mut script);
+    feed_chip::rates_and_flag(&mut script);
+    feed_chip::tone_and_irq(&mut script);
+    feed_chip::data_and_cells(&mut script);
     feed_chip::levels(&mut script);
     feed_chip::frames(&mut script);
-    feed_chip::wild(&mut random, &mut script);
+    feed_chip::wild(random, &mut script);
     feed_calls::limits(&mut script);
     feed_calls::couplings(&mut script);
     feed_calls::streams(&mut script);
+    feed_calls::refused_streams(&mut script);
     feed_calls::sent_commands(&mut script);
     feed_calls::noted_and_power_on(&mut script);
-    println!("{}", script.lines.join("\n"));
+    script.lines.join("\n") + "\n"
+}
+
+fn main() {
+    let words: Vec<String> = std::env::args().collect();
+    let mut random = Random(words[1].parse::<u64>().expect("a seed is a number") * 2 + 1);
+    match words.get(2).map(String::as_str) {
+        None => print!("{}", script(&mut random)),
+        Some("listing") => print!("{}", feed_listing::capture(&mut random)),
+        Some(what) => panic!("there is no {what} to feed"),
+    }
 }

@@ -13,23 +13,27 @@ pub fn limits(script: &mut Script) {
     for place in 0..32 {
         script.lend('p', &changed(&write, &[(place, 16)]), 32);
     }
-    let values: [(usize, &[u8]); 30] = [
+    for nibble in [0, 14, 15] {
+        script.lend('p', &[&[nibble; 32], &write[32..]].concat(), 32);
+    }
+    let values: [(usize, &[u8]); 26] = [
         (0, &[15, 16]), (1, &[16]), (31, &[15, 16, 128]), (32, &[0, 14, 16, 18, 30, 254]),
         (33, &[4, 5, 8, 12, 255]), (37, &[31, 32, 255]), (38, &[3, 4, 255]), (39, &[2, 3, 255]),
         (40, &[0, 1, 2, 255]), (41, &[0, 2, 3, 255]), (42, &[0, 1, 2, 255]), (43, &[0, 1, 2, 3, 4, 255]),
         (44, &[0, 1, 2, 3, 4, 5, 255]), (45, &[0, 1, 2, 255]), (46, &[0, 1, 2, 3, 4, 5, 255]),
         (47, &[0, 1, 2, 255]), (48, &[0, 7, 8, 15, 255]), (49, &[0, 1, 2, 255]), (50, &[0, 2, 3, 255]),
         (51, &[0, 1, 2, 255]), (52, &[0, 7, 8, 255]), (53, &[0, 15, 16, 255]), (54, &[0, 127, 128, 255]),
-        (55, &[0, 255]), (56, &[0, 3, 4, 255]), (57, &[0, 1, 2, 255]), (58, &[1, 255]), (59, &[1]),
-        (62, &[1]), (63, &[1, 255]),
+        (55, &[0, 255]), (56, &[0, 3, 4, 255]), (57, &[0, 1, 2, 255]),
     ];
     for (place, bytes) in values {
         for &byte in bytes {
             script.capture(&changed(&write, &[(place, byte)]), CALLS);
         }
     }
-    for place in 60..62 {
-        script.capture(&changed(&write, &[(place, 1)]), CALLS);
+    for place in 58..64 {
+        for byte in [1, 255] {
+            script.capture(&changed(&write, &[(place, byte)]), CALLS);
+        }
     }
 }
 
@@ -71,15 +75,19 @@ pub fn couplings(script: &mut Script) {
     }
 }
 
-// Writes and reads: each address, lengths, and their refusals at the limits, in their order, with their places.
+// Nibbles to write, more of them than are accepted.
+fn some_nibbles() -> Vec<u8> {
+    (0..40).map(|i| (i * 3 + 1) % 16).collect()
+}
+
+// Writes and reads that are accepted, and refused for want of room: each address, and lengths.
 pub fn streams(script: &mut Script) {
-    const MOST: u64 = u64::MAX;
     script.words("writes and reads at each address");
     for first in 0..32 {
         script.write(first, &[(first * 5 + 2) as u8 % 16], 29);
         script.read(first, 1, 29);
     }
-    let nibbles: Vec<u8> = (0..40).map(|i| (i * 3 + 1) % 16).collect();
+    let nibbles = some_nibbles();
     script.words("writes and reads of each size, and at the end of the memory");
     for (first, count) in [(0, 1), (0, 2), (3, 3), (0, 31), (0, 32), (1, 31), (31, 1), (30, 2), (24, 8)] {
         let needed = 21 + 8 * count;
@@ -90,6 +98,12 @@ pub fn streams(script: &mut Script) {
         script.write(first, &nibbles[..count], needed - 1);
         script.read(first, count as u64, needed - 1);
     }
+}
+
+// Writes and reads that are refused at the limits, in the order of the refusals, with their places.
+pub fn refused_streams(script: &mut Script) {
+    const MOST: u64 = u64::MAX;
+    let nibbles = some_nibbles();
     script.words("21 and 22");
     for (first, count) in [
         (0, 0), (31, 0), (32, 0), (MOST, 0), (0, 33), (1, 32), (31, 2), (32, 1), (33, 1), (63, 1), (64, 1), (255, 1), (256, 1),

@@ -1,5 +1,5 @@
 // The part of the script that shows what the chip does: commands, ticks, pins, and frames.
-use crate::captures::{frame, Random};
+use crate::random::{frame, Random};
 use crate::{closed, digits, open, record, sent, Bytes, Script, COMMAND, OFF, ON, READ, TIMED, WRITE};
 use std::collections::BTreeSet;
 
@@ -28,8 +28,8 @@ pub fn codes(script: &mut Script) {
     script.capture(&record(&[ON]), &closed("1001110001101110000011"));
 }
 
-// Ticks: each clock, running or not, with the time base on or off, at the end of every counter; each rate beside the
-// numbers that it divides; the flag, set for each source and kept; and advancing by numbers of all sizes.
+// Ticks of each clock, running or not, with the time base on or off, at the end of every counter; and advancing by numbers
+// of all sizes.
 pub fn ticks(script: &mut Script) {
     let full: Bytes = &[(52, 6), (53, 15), (54, 126), (55, 255), (56, 3)];
     for state in 0..12u8 {
@@ -43,6 +43,10 @@ pub fn ticks(script: &mut Script) {
             script.advance(&state, ticks);
         }
     }
+}
+
+// Each rate beside the numbers that it divides; the flag, set for each source and kept; and the paper's figures.
+pub fn rates_and_flag(script: &mut Script) {
     for rate in 0..8u8 {
         script.words(&format!("rate {rate}"));
         let every = 1u8 << (7 - rate);
@@ -73,8 +77,8 @@ pub fn ticks(script: &mut Script) {
     }
 }
 
-// Pins: the tone at every q, IRQ under all that it depends on and does not, DATA, the cells, and rooms.
-pub fn pins(script: &mut Script) {
+// Pins: the tone at every q, and IRQ under all that it depends on and does not.
+pub fn tone_and_irq(script: &mut Script) {
     script.words("the tone");
     for kind in [4, 2] {
         for q in 0..16 {
@@ -97,6 +101,10 @@ pub fn pins(script: &mut Script) {
     for b in [0, 64, 191, 192, 255] {
         script.lend('p', &record(&[&[(47, 1), (50, 1), (55, b)]]), 32);
     }
+}
+
+// Pins: DATA, the cells, and rooms for them.
+pub fn data_and_cells(script: &mut Script) {
     script.words("DATA");
     for state in [READ, WRITE] {
         for data in 0..3 {

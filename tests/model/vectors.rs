@@ -18,8 +18,8 @@ fn note(seen: &mut Counts, what: String) {
     *seen.entry(what).or_insert(0) += 1;
 }
 
-// A call of a capture: what it returned, with the code or the phase that it is about.
-fn note_call(before: &[u8], returned: u32, after: &[u8], seen: &mut Counts) {
+// A step of a capture: what it returned, with the code or the phase that it is about.
+fn note_step(before: &[u8], returned: u32, after: &[u8], seen: &mut Counts) {
     let (number, first) = (returned % 256, returned / 256 % 256);
     note(seen, format!("answer {number}"));
     let phase = if before.len() == 64 { before[33] } else { 0 };
@@ -32,7 +32,7 @@ fn note_call(before: &[u8], returned: u32, after: &[u8], seen: &mut Counts) {
     }
 }
 
-// A request: the calls of a capture, or the refusal of a call that lends a buffer.
+// A request: the steps of a capture, or the refusal of a call that lends a buffer.
 fn note_request(request: &Request, seen: &mut Counts) {
     let letter = &request.line[..1];
     if letter == "s" {
@@ -40,7 +40,9 @@ fn note_request(request: &Request, seen: &mut Counts) {
         for byte in request.line[7..].bytes() {
             let before = record.clone();
             let returned = called(&mut record, byte, 1);
-            note_call(&before, returned, &record, seen);
+            if byte != b't' {
+                note_step(&before, returned, &record, seen);
+            }
         }
     } else if letter != "=" && letter != "#" {
         let text = answer(request);

@@ -38,7 +38,8 @@ fn byte_of(high: u8, low: u8) -> u8 {
     (16 * nibble_of(high) + nibble_of(low)) as u8
 }
 
-// The number of hex digits, of which the last 16 count.
+// The number of hex digits, of which the last 16 count: modulo 2^60, which is 1152921504606846976, the last 15 stay before
+// one more comes.
 fn number_of(digits: &[u8]) -> usize {
     let mut number: usize = 0;
     let mut i: usize = 0;
@@ -138,7 +139,7 @@ fn run(line: &[u8], record: &mut [u8]) {
     }
 }
 
-// The call that a letter stands for, of those that lend a buffer.
+// The call that a letter stands for, of those that lend a buffer. Another letter calls nothing and comes to 0.
 fn called(letter: u8, line: &[u8], bytes: &[u8], out: &mut [u8]) -> u32 {
     let first = field(line, 6, 22);
     let count = field(line, 23, 39);
@@ -148,7 +149,8 @@ fn called(letter: u8, line: &[u8], bytes: &[u8], out: &mut [u8]) -> u32 {
         b'r' => host::ht1621_read(first, count, out),
         b'c' => host::ht1621_commands(bytes, out),
         b'd' => host::ht1621_decode(bytes, out),
-        _ => simulator::pins(bytes, out),
+        b'p' => simulator::pins(bytes, out),
+        _ => 0,
     }
 }
 
@@ -177,6 +179,7 @@ fn answer_about(line: &[u8], bytes: &mut [u8], space: &mut [u8]) {
     }
 }
 
+// Answers a line, given the line of its list and the space for the list's bytes and for the buffer.
 fn answer_with(line: &[u8], list: &[u8], bytes: &mut [u8], space: &mut [u8]) {
     let count = put_list(list, bytes);
     answer_about(line, first_of(bytes, count), space);
