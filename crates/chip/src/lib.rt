@@ -261,6 +261,6 @@ pub fn power_on(memory: &[u8]) -> PoweredOn
     }
     PoweredOn {
         answer: Start::On,
-        chip: fresh(ground::first_32(memory)),
+        chip: fresh(ground::memory_from(memory)),
     }
 }

@@ -4,8 +4,8 @@ use mathlib.Core.Path.{_∙_, sym}
 use Rattle.ground.specs.Determined.{Determined}
 use Rattle.ground.proofs.first_above.Kinds as first-above-kinds
 use Rattle.ground.proofs.first_above.Reads as first-above-reads
-use Rattle.ground.proofs.first_32.Kinds as first-32-kinds
-use Rattle.ground.proofs.first_32.Reads as first-32-reads
+use Rattle.ground.proofs.memory_from.Kinds as memory-from-kinds
+use Rattle.ground.proofs.memory_from.Reads as memory-from-reads
 use Rattle.ground.proofs.Refusal.number.Kinds as refusal-number-kinds
 use Rattle.ground.proofs.Refusal.number.Reads as refusal-number-reads
 use Rattle.ground.proofs.Refusal.place.Kinds as refusal-place-kinds
@@ -20,5 +20,5 @@ refusal-place-determined κs args x y end end' p q = p ∙ sym q
 pub first-above-determined : Determined 1 first-above-kinds.ps first-above-kinds.r first-above-reads.Post
 first-above-determined κs args x y end end' p q = p ∙ sym q
 
-pub first-32-determined : Determined 1 first-32-kinds.ps first-32-kinds.r first-32-reads.Post
-first-32-determined κs args x y end end' p q = p ∙ sym q
+pub memory-from-determined : Determined 1 memory-from-kinds.ps memory-from-kinds.r memory-from-reads.Post
+memory-from-determined κs args x y end end' p q = p ∙ sym q

@@ -7,7 +7,8 @@ use native.Mathlib.Nat.{add-zero, zero-add}
 use native.Mathlib.Numerals.{add-one}
 use lib.ListN.{length, take, drop, getD, set, replicate, length-append, take-append-drop, drop-of-length-le}
 use lib.Seq.{paste, paste-suc, take-all, length-paste, take-paste, drop-paste, take-length, set-split, append-snoc, drop-drop}
-use Rattle.ground.specs.Written.{over, Wrote, first32}
+use Rattle.ground.specs.Sizes.{addresses}
+use Rattle.ground.specs.Written.{over, Wrote, memoryFrom}
 
 pub over-paste : (buffer bytes : List ℕ) (at : ℕ) → paste buffer at bytes (length bytes) ≡ over buffer at bytes
 over-paste buffer bytes at = ap (λ (t : List ℕ). take at buffer ++ t ++ drop (at + length bytes) buffer) (take-length bytes)
@@ -76,6 +77,6 @@ pub paste-whole : (buffer bytes : List ℕ) (i : ℕ) → length buffer ≤ i �
 paste-whole buffer bytes i full all =
     rw (take-all i bytes all, zero-add, drop-of-length-le buffer full) (append-nil bytes)
 
--- 32 values are their own first 32
-pub first32-all : (values : List ℕ) → length values ≡ 32 → first32 values ≡ values
-first32-all values e = rw e (paste-whole (replicate 32 0) values 32 (omega arith) (omega arith))
+-- a value for each address is a memory as it stands
+pub memoryFrom-all : (values : List ℕ) → length values ≡ addresses → memoryFrom values ≡ values
+memoryFrom-all values e = rw e (paste-whole (replicate addresses 0) values addresses (omega arith) (omega arith))

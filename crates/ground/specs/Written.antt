@@ -4,6 +4,7 @@ use mathlib.Core.List.{List, _++_}
 use Prim.Native.Nat.{ℕ, _+_, min}
 use lib.ListN.{length, take, drop, replicate}
 use lib.Seq.{paste}
+use Rattle.ground.specs.Sizes.{addresses}
 
 -- The buffer with `bytes` over it from `at` on.
 abbrev pub over : List ℕ → ℕ → List ℕ → List ℕ
@@ -14,6 +15,6 @@ pub record Wrote (before : List ℕ) (at : ℕ) (bytes after : List ℕ) (next :
   pub cursor : next ≡ at + length bytes
   pub buffer : after ≡ over before at bytes
 
--- The first 32 of some values, with zeros where there are fewer.
-abbrev pub first32 : List ℕ → List ℕ
-first32 values = paste (replicate 32 0) 0 values (min 32 (length values))
+-- A value for each address: the first of some values, with zeros where there are fewer.
+abbrev pub memoryFrom : List ℕ → List ℕ
+memoryFrom values = paste (replicate addresses 0) 0 values (min addresses (length values))

@@ -1,11 +1,16 @@
-// What every crate above shares: the refusals of 01 and their numbers; what a call that writes bytes comes to; what it means
-// that a contract determines its result; bits and bytes written over a buffer; and how one computed test becomes a law.
-// Assumes nothing.
+// What every crate above shares: the sizes of 01; its refusals and their numbers; what a call that writes bytes comes to; what
+// it means that a contract determines its result; bits and bytes written over a buffer; and how one computed test becomes a
+// law. Assumes nothing.
 ghost use mathlib.Core.Path.{_≡_};
 ghost use lib.Dec.{ltb};
 ghost use Rattle.ground.specs.Places.{lowest};
-ghost use Rattle.ground.specs.Written.{first32};
+ghost use Rattle.ground.specs.Written.{memoryFrom};
 ghost use Rattle.ground.specs.Refusals.{refusalNumber, refusalPlace};
+
+// How many addresses the memory has, and how many bytes a state record.
+pub const ADDRESSES: usize = 32;
+
+pub const RECORD_LENGTH: usize = 64;
 
 // Why a call was refused. A place is the lowest index at fault.
 pub enum Refusal {
@@ -69,7 +74,7 @@ impl Refusal {
     }
 }
 
-// What a call that writes bytes comes to: how many it wrote at the start of the buffer lent, or why it wrote none.
+// What a call that writes bytes comes to: how many it wrote over the buffer lent, or why it wrote none.
 pub enum Outcome {
     Written(usize),
     Refused(Refusal),
@@ -89,13 +94,13 @@ pub fn first_above(values: &[u8], limit: u8) -> usize
     i
 }
 
-// The first 32 of some values, with zeros where there are fewer.
-pub fn first_32(values: &[u8]) -> [u8; 32]
-    ensures { λ r. ⌜ r ≡ first32 (now (values .entry)) ⌝ }
+// A value for each address: the first of some values, with zeros where there are fewer.
+pub fn memory_from(values: &[u8]) -> [u8; ADDRESSES]
+    ensures { λ r. ⌜ r ≡ memoryFrom (now (values .entry)) ⌝ }
 {
-    let mut kept = [0u8; 32];
+    let mut kept = [0u8; ADDRESSES];
     let mut i: usize = 0;
-    while i < 32 && i < values.len() {
+    while i < ADDRESSES && i < values.len() {
         kept[i] = values[i];
         i += 1;
     }

@@ -16,7 +16,7 @@ use Rattle.ground.specs.Bits.{bitNumber}
 use Rattle.ground.specs.declared.Refusal.the-variants.{OutputShort}
 use Rattle.ground.specs.declared.Outcome.the-variants.{Written, Refused}
 use Rattle.ground.specs.Outcomes.{outcomeNumber}
-use Rattle.ground.specs.Written.{over, first32}
+use Rattle.ground.specs.Written.{over, memoryFrom}
 use Rattle.ground.proofs.WrittenLaws.{over-paste, length-over, over-over}
 use Rattle.rules.specs.declared.Settings.{Settings}
 use Rattle.frames.specs.declared.Phase.{Phase}
@@ -174,7 +174,7 @@ put-settings s buffer between room e =
 
 -- ---- the memory of a record is its first 32 bytes
 
-pub memory-taken : (bytes : List ℕ) → length bytes ≡ 64 → first32 bytes ≡ take 32 bytes
+pub memory-taken : (bytes : List ℕ) → length bytes ≡ 64 → memoryFrom bytes ≡ take 32 bytes
 memory-taken bytes h = rw h (append-nil (take 32 bytes))
 
 -- ---- what a reading found tells whether the bytes are right
@@ -243,7 +243,7 @@ module _ (b : List ℕ) (long : length b ≡ 64) where
         rw (eq-eqb _ _ long, fit, none)
 
     pub read-whole : (phase : Phase) (line : Line) (settings : Settings) (memory : List ℕ) → phaseAt b ≡ Phased phase
-        → lineRead (byte b 39) ≡ Does line → settingsRead b ≡ Set settings → memory ≡ first32 b
+        → lineRead (byte b 39) ≡ Does line → settingsRead b ≡ Set settings → memory ≡ memoryFrom b
         → valid-reading memory (byte b 32) phase line settings ≡ readOf b
     unfolding readOf recordValid settingsRead chipOf
     read-whole phase line settings memory p l e m =

@@ -496,7 +496,7 @@ pub fn read(bytes: &[u8]) -> Reading
         answer: Verdict::Valid,
         chip: Chip {
             port: Port {
-                memory: ground::first_32(bytes),
+                memory: ground::memory_from(bytes),
                 levels,
                 phase,
                 line,

@@ -1,7 +1,7 @@
 -- `chip::power_on` meets its contract. Assumes nothing.
 use mathlib.Core.Path.{sym}
 use Rattle.chip.specs.PowerOn.{poweredOn}
-use Rattle.ground.proofs.WrittenLaws.{first32-all}
+use Rattle.ground.proofs.WrittenLaws.{memoryFrom-all}
 use borrow.Author.Tests.{lt-ltb, le-ltb, eq-eqb, ne-eqb}
 use borrow.Author.Needs.{needs}
 use Rattle.chip.proofs.power_on.Statement.{statement}
@@ -30,8 +30,8 @@ returns-2 c =
       lt-ltb _ _ (c .before .if2 .taken),
     )
 
-first-32-requires : tie.Need-first-32-requires
-first-32-requires c κs = search needs
+memory-from-requires : tie.Need-memory-from-requires
+memory-from-requires c κs = search needs
 
 fresh-requires : tie.Need-fresh-requires
 fresh-requires c κs = search needs
@@ -41,8 +41,8 @@ unfolding poweredOn
 returns-3 c =
     simp (
       c .fresh .ensures,
-      c .before .first-32 .ensures,
-      first32-all (c .before .before .before .before .before .before .args .memory .now) (c .before .before .before .before .if1 .left),
+      c .before .memory-from .ensures,
+      memoryFrom-all (c .before .before .before .before .before .before .args .memory .now) (c .before .before .before .before .if1 .left),
       eq-eqb _ _ (c .before .before .before .before .if1 .left),
       sym (c .before .before .before .first-above .ensures),
       le-ltb _ _ (c .before .before .if2 .left),
@@ -57,6 +57,6 @@ power-on-spec =
     first-above-requires
     not-started-requires-2
     returns-2
-    first-32-requires
+    memory-from-requires
     fresh-requires
     returns-3)

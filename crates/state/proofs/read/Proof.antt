@@ -102,8 +102,8 @@ returns-5 c =
     ∙ read-settings (size .before .before .args .bytes .now) (size .if1 .left) (sym (fit .before .bytes-fit .ensures) ∙ not-false _ (fit .if2 .left))
     (sym (settings .settings-of .ensures) ∙ c .before .enum-told3 .given .1)
 
-first-32-requires : tie.Need-first-32-requires
-first-32-requires c κs = search needs
+memory-from-requires : tie.Need-memory-from-requires
+memory-from-requires c κs = search needs
 
 returns-6 : tie.Need-returns-6
 returns-6 c =
@@ -118,7 +118,7 @@ returns-6 c =
     simp (phase .before .levels-of .ensures)
     (read-whole (size .before .before .args .bytes .now) (size .if1 .left) (sym (fit .before .bytes-fit .ensures) ∙ not-false _ (fit .if2 .left)) _ _ _ _
     (sym (phase .phase-in .ensures) ∙ phased .phase .given .1) (sym (line .line-of .ensures) ∙ does .line .given .1)
-    (sym (settings .settings-of .ensures) ∙ set .settings .given .1) (c .first-32 .ensures))
+    (sym (settings .settings-of .ensures) ∙ set .settings .given .1) (c .memory-from .ensures))
 
 pub read-spec : {M : Type 1} → statement M
 read-spec =
@@ -147,5 +147,5 @@ read-spec =
     enum-told-3
     not-valid-requires-5
     returns-5
-    first-32-requires
+    memory-from-requires
     returns-6)
