@@ -1,77 +1,61 @@
-// An answer as numbers: the paper's number for it, and its two details. Assumes nothing.
+// What a sample is answered, and the answer as numbers. Assumes nothing.
 ghost use mathlib.Core.Path.{_≡_};
-ghost use Rattle.ground.specs.Bits.{bitNumber};
-ghost use Rattle.frames.specs.Answers.{answerNumber, firstDetail, secondDetail};
-use frames::Answer;
+ghost use Rattle.answers.specs.Answers.{numbered, numbers};
+use ground::Refusal;
 
-// The number of an answer; a refusal has its own.
-pub fn number_of(answer: Answer) -> u8
-    ensures { λ r. ⌜ r ≡ answerNumber answer ⌝ }
+// What a sample is answered.
+pub enum Answer {
+    Nothing,
+    Opened,
+    Closed,
+    Dropped,
+    Taken,
+    Stored(u8, u8),
+    Obeyed(u8),
+    Passed(u8),
+    Offered(u8, bool),
+    Stray,
+    Unknown,
+    Clash,
+    Refused(Refusal),
+}
+
+// An answer as the paper's table has it: its number and its two details.
+pub struct Numbers {
+    pub number: u8,
+    pub first: u8,
+    pub second: u8,
+}
+
+fn told(number: u8, first: u8, second: u8) -> Numbers
+    ensures { λ r. ⌜ r ≡ numbered number first second ⌝ }
 {
-    match answer {
-        Answer::Nothing => 0,
-        Answer::Opened => 1,
-        Answer::Closed => 2,
-        Answer::Dropped => 3,
-        Answer::Taken => 4,
-        Answer::Stored(_, _) => 5,
-        Answer::Obeyed(_) => 6,
-        Answer::Passed(_) => 7,
-        Answer::Offered(_, _) => 8,
-        Answer::Stray => 9,
-        Answer::Unknown => 10,
-        Answer::Clash => 11,
-        Answer::Refused(refusal) => refusal.number(),
+    Numbers {
+        number,
+        first,
+        second,
     }
 }
 
-// Its first detail: the address or the code, or 0.
-pub fn first_detail(answer: Answer) -> u8
-    ensures { λ r. ⌜ r ≡ firstDetail answer ⌝ }
-{
-    match answer {
-        Answer::Nothing => 0,
-        Answer::Opened => 0,
-        Answer::Closed => 0,
-        Answer::Dropped => 0,
-        Answer::Taken => 0,
-        Answer::Stored(address, _) => address,
-        Answer::Obeyed(code) => code,
-        Answer::Passed(code) => code,
-        Answer::Offered(address, _) => address,
-        Answer::Stray => 0,
-        Answer::Unknown => 0,
-        Answer::Clash => 0,
-        Answer::Refused(_) => 0,
-    }
-}
-
-fn bit_number(bit: bool) -> u8
-    ensures { λ r. ⌜ r ≡ bitNumber bit ⌝ }
-{
-    if bit {
-        return 1;
-    }
-    0
-}
-
-// Its second detail: the nibble or the bit, or 0.
-pub fn second_detail(answer: Answer) -> u8
-    ensures { λ r. ⌜ r ≡ secondDetail answer ⌝ }
-{
-    match answer {
-        Answer::Nothing => 0,
-        Answer::Opened => 0,
-        Answer::Closed => 0,
-        Answer::Dropped => 0,
-        Answer::Taken => 0,
-        Answer::Stored(_, nibble) => nibble,
-        Answer::Obeyed(_) => 0,
-        Answer::Passed(_) => 0,
-        Answer::Offered(_, bit) => bit_number(bit),
-        Answer::Stray => 0,
-        Answer::Unknown => 0,
-        Answer::Clash => 0,
-        Answer::Refused(_) => 0,
+impl Answer {
+    // The answer's number, a refusal's its own, and its details: the address or the code, and the nibble or the bit, or 0.
+    pub fn numbers(self) -> Numbers
+        ensures { λ r. ⌜ r ≡ numbers self ⌝ }
+    {
+        match self {
+            Answer::Nothing => told(0, 0, 0),
+            Answer::Opened => told(1, 0, 0),
+            Answer::Closed => told(2, 0, 0),
+            Answer::Dropped => told(3, 0, 0),
+            Answer::Taken => told(4, 0, 0),
+            Answer::Stored(address, nibble) => told(5, address, nibble),
+            Answer::Obeyed(code) => told(6, code, 0),
+            Answer::Passed(code) => told(7, code, 0),
+            Answer::Offered(address, bit) => told(8, address, bit as u8),
+            Answer::Stray => told(9, 0, 0),
+            Answer::Unknown => told(10, 0, 0),
+            Answer::Clash => told(11, 0, 0),
+            Answer::Refused(refusal) => told(refusal.number(), 0, 0),
+        }
     }
 }

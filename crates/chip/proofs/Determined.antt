@@ -2,8 +2,8 @@
 -- Assumes nothing.
 use mathlib.Core.Path.{_∙_, sym}
 use Rattle.ground.specs.Determined.{Determined}
-use Rattle.chip.proofs.Port.moved.Kinds as moved-kinds
-use Rattle.chip.proofs.Port.moved.Reads as moved-reads
+use Rattle.chip.proofs.Chip.step_to.Kinds as step-to-kinds
+use Rattle.chip.proofs.Chip.step_to.Reads as step-to-reads
 use Rattle.chip.proofs.Chip.step.Kinds as step-kinds
 use Rattle.chip.proofs.Chip.step.Reads as step-reads
 use Rattle.chip.proofs.Chip.tick.Kinds as tick-kinds
@@ -17,8 +17,8 @@ use Rattle.chip.proofs.empty.Reads as empty-reads
 use Rattle.chip.proofs.power_on.Kinds as power-on-kinds
 use Rattle.chip.proofs.power_on.Reads as power-on-reads
 
-pub moved-determined : Determined 0 moved-kinds.ps moved-kinds.r moved-reads.Post
-moved-determined κs args x y end end' p q = p ∙ sym q
+pub step-to-determined : Determined 0 step-to-kinds.ps step-to-kinds.r step-to-reads.Post
+step-to-determined κs args x y end end' p q = p ∙ sym q
 
 pub step-determined : Determined 0 step-kinds.ps step-kinds.r step-reads.Post
 step-determined κs args x y end end' p q = p ∙ sym q

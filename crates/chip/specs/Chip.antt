@@ -2,79 +2,52 @@
 -- Assumes nothing.
 use Prim.Native.Nat.{ℕ, _*_}
 use mathlib.Core.Bool.{cond}
-use mathlib.Core.List.{List}
 use lib.Dec.{ltb}
-use lib.ListN.{getD, set}
 use Rattle.ground.specs.declared.Refusal.the-variants.{SampleAbove}
 use Rattle.commands.specs.declared.Decoded.{Decoded}
 use Rattle.commands.specs.declared.Decoded.the-variants.{Undefined, Means}
 use Rattle.commands.specs.Commands.{codeMeaning}
-use Rattle.rules.specs.declared.Settings.{Settings}
+use Rattle.settings.specs.declared.Settings.{Settings}
 use Rattle.rules.specs.Effects.{effect}
-use Rattle.rules.specs.Ticks as ticks
-use Rattle.frames.specs.declared.Levels.{Levels}
-use Rattle.frames.specs.declared.Act.{Act}
-use Rattle.frames.specs.declared.Act.the-variants.{Keep, Store, Obey}
-use Rattle.frames.specs.declared.Answer.the-variants.{Refused}
-use Rattle.frames.specs.declared.Framed.{Framed}
-use Rattle.frames.specs.Samples.{levels, edge}
-use Rattle.frames.specs.Frames.{address, frame}
-use Rattle.frames.specs.Answers.{act}
-use Rattle.chip.specs.declared.Port.{Port}
-use Rattle.chip.specs.declared.Moved.{Moved}
+use Rattle.ticks.specs.Ticks as ticks
+use Rattle.lines.specs.declared.Levels.{Levels}
+use Rattle.lines.specs.Samples.{levels}
+use Rattle.answers.specs.declared.Answer.{Answer}
+use Rattle.answers.specs.declared.Answer.the-variants.{Stored, Obeyed, Passed, Refused}
+use Rattle.frames.specs.declared.Upshot.{Upshot}
+use Rattle.frames.specs.declared.Upshot.the-variants.{Answered, Nibble, Code}
+use Rattle.port.specs.declared.Port.{Port}
+use Rattle.port.specs.declared.Moved.{Moved}
+use Rattle.port.specs.Port.{moved}
 use Rattle.chip.specs.declared.Chip.{Chip}
 use Rattle.chip.specs.declared.Stepped.{Stepped}
 
--- Of all answers only a stored nibble changes the memory.
-unfoldable pub memoryAfter : Act → List ℕ → List ℕ
-memoryAfter Keep memory = memory
-memoryAfter (Store at nibble) memory = set memory at nibble
-memoryAfter (Obey code) memory = memory
+-- A code that is complete: an undefined one is passed over; a command is obeyed, by its effect on the settings.
+abbrev pub decodedAnswer : Decoded → ℕ → Answer
+decodedAnswer Undefined code = Passed code
+decodedAnswer (Means command) code = Obeyed code
 
--- And only an obeyed command changes the settings: by its effect.
 unfoldable pub obeyedAs : Decoded → Settings → Settings
 obeyedAs Undefined settings = settings
 obeyedAs (Means command) settings = effect command settings
 
-unfoldable pub settingsAfter : Act → Settings → Settings
-settingsAfter Keep settings = settings
-settingsAfter (Store at nibble) settings = settings
-settingsAfter (Obey code) settings = obeyedAs (codeMeaning (2 * code)) settings
+abbrev pub commanded : Port → Settings → ℕ → Decoded → Stepped
+commanded port settings code decoded =
+    record { chip = record { port = port; settings = obeyedAs decoded settings }; answer = decodedAnswer decoded code }
 
--- What the frame makes of a sample, by the levels before and after it and the nibble at the frame's address.
-unfoldable pub framedBy : Port → Levels → Framed
-framedBy port new =
-    frame (edge (port .levels) new) (getD (port .memory) (address (port .phase)) 0) (port .phase) (port .line)
+-- What a sample is answered, by what it came to in its frame; and only a command changes the settings.
+unfoldable pub steppedAs : Upshot → Port → Settings → Stepped
+steppedAs (Answered answer) port settings = record { chip = record { port = port; settings = settings }; answer = answer }
+steppedAs (Nibble at nibble) port settings = record { chip = record { port = port; settings = settings }; answer = Stored at nibble }
+steppedAs (Code code) port settings = commanded port settings code (codeMeaning (2 * code))
 
--- The port after it: the new levels are always stored.
-abbrev pub movedAs : Port → Levels → Framed → Moved
-movedAs port new framed =
-    record {
-      port =
-          record {
-            memory = memoryAfter (act (framed .answer)) (port .memory);
-            levels = new;
-            phase = framed .phase;
-            line = framed .line;
-          };
-      answer = framed .answer;
-    }
-
-unfoldable pub moved : Port → Levels → Moved
-moved port new = movedAs port new (framedBy port new)
+-- A sample by its levels.
+unfoldable pub steppedTo : Chip → Levels → Stepped
+steppedTo chip new = let result = moved (chip .port) new in steppedAs (result .upshot) (result .port) (chip .settings)
 
 -- A sample above 15 is refused and changes nothing; any other is taken by its levels.
-abbrev pub steppedAs : Chip → Moved → Stepped
-steppedAs chip result =
-    record {
-      chip = record { port = result .port; settings = settingsAfter (act (result .answer)) (chip .settings) };
-      answer = result .answer;
-    }
-
 unfoldable pub stepped : Chip → ℕ → Stepped
-stepped chip sample =
-    cond (ltb 15 sample) (record { chip = chip; answer = Refused SampleAbove })
-    (steppedAs chip (moved (chip .port) (levels sample)))
+stepped chip sample = cond (ltb 15 sample) (record { chip = chip; answer = Refused SampleAbove }) (steppedTo chip (levels sample))
 
 -- A tick, and n of them, touch only the settings.
 abbrev pub ticked : Chip → Chip

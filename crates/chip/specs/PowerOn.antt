@@ -10,9 +10,9 @@ use Rattle.ground.specs.Outcomes.{Rung, refusedIf, ladder}
 use Rattle.ground.specs.Places.{lowest, somewhere}
 use Rattle.ground.specs.Refusals.{refusalNumber, refusalPlace}
 use Rattle.rules.specs.Effects.{powerOn}
-use Rattle.frames.specs.declared.Phase.the-variants.{Idle}
-use Rattle.frames.specs.declared.Line.the-variants.{Released}
-use Rattle.frames.specs.Samples.{levels}
+use Rattle.phases.specs.declared.Phase.the-variants.{Idle}
+use Rattle.phases.specs.declared.Line.the-variants.{Released}
+use Rattle.lines.specs.Samples.{levels}
 use Rattle.chip.specs.declared.Chip.{Chip}
 use Rattle.chip.specs.declared.Start.{Start}
 use Rattle.chip.specs.declared.Start.the-variants.{On, Refused}

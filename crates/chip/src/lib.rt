@@ -2,37 +2,26 @@
 // is taken and answered; each tick moves the settings' counters. All goes by value. Assumes nothing.
 ghost use mathlib.Core.Path.{_≡_};
 ghost use mathlib.Core.List.{map};
+ghost use Prim.Native.Nat.{_*_};
 ghost use lib.Bits.{bitAnd};
-ghost use lib.ListN.{getD, set};
-ghost use Rattle.chip.specs.Chip.{memoryAfter, settingsAfter, obeyedAs, moved, stepped, ticked, advanced};
+ghost use Rattle.commands.specs.Commands.{codeMeaning};
+ghost use Rattle.chip.specs.Chip.{commanded, steppedTo, stepped, ticked, advanced};
 ghost use Rattle.chip.specs.Pins.{pinsShown};
 ghost use Rattle.chip.specs.PowerOn.{freshChip, emptyChip, notStarted, poweredOn};
+use answers::Answer;
 use commands::Decoded;
-use frames::Act;
-use frames::Answer;
-use frames::Levels;
-use frames::Line;
-use frames::Phase;
+use frames::Upshot;
+use ground::ADDRESSES;
 use ground::Refusal;
-use rules::Settings;
-
-// What samples move: the memory of 32 nibbles, the levels last seen, the frame, and what the chip does to DATA.
-pub struct Port {
-    pub memory: [u8; 32],
-    pub levels: Levels,
-    pub phase: Phase,
-    pub line: Line,
-}
+use lines::Levels;
+use phases::Line;
+use phases::Phase;
+use port::Port;
+use settings::Settings;
 
 pub struct Chip {
     pub port: Port,
     pub settings: Settings,
-}
-
-// A port after a sample, and what the sample was answered.
-pub struct Moved {
-    pub port: Port,
-    pub answer: Answer,
 }
 
 // A chip after a sample, and what the sample was answered.
@@ -59,89 +48,57 @@ pub struct Pins {
     pub bz: bool, // high
     pub partner: bool, // high
     pub line: Line,
-    pub cells: [u8; 32],
+    pub cells: [u8; ADDRESSES],
 }
 
-// The nibble at an address, or 0 where there is none.
-fn nibble_at(memory: [u8; 32], at: u8) -> u8
-    ensures { λ r. ⌜ r ≡ getD memory at 0 ⌝ }
+// A code that is complete: an undefined one is passed over, a command obeyed.
+fn commanded(port: Port, settings: Settings, code: u8) -> Stepped
+    ensures { λ r. ⌜ r ≡ commanded port settings code (codeMeaning (2 * code)) ⌝ }
 {
-    if at < 32 {
-        let i = at as usize;
-        return memory[i];
-    }
-    0
-}
-
-// The memory with a nibble stored; no address, no change.
-fn stored(memory: [u8; 32], at: u8, nibble: u8) -> [u8; 32]
-    ensures { λ r. ⌜ r ≡ set memory at nibble ⌝ }
-{
-    let mut next = memory;
-    if at < 32 {
-        let i = at as usize;
-        next[i] = nibble;
-        return next;
-    }
-    next
-}
-
-fn memory_after(act: Act, memory: [u8; 32]) -> [u8; 32]
-    ensures { λ r. ⌜ r ≡ memoryAfter act memory ⌝ }
-{
-    match act {
-        Act::Keep => memory,
-        Act::Store(at, nibble) => stored(memory, at, nibble),
-        Act::Obey(_) => memory,
-    }
-}
-
-fn obeyed_as(decoded: Decoded, settings: Settings) -> Settings
-    ensures { λ r. ⌜ r ≡ obeyedAs decoded settings ⌝ }
-{
-    match decoded {
-        Decoded::Undefined => settings,
-        Decoded::Means(command) => settings.obeyed(command),
-    }
-}
-
-fn settings_after(act: Act, settings: Settings) -> Settings
-    ensures { λ r. ⌜ r ≡ settingsAfter act settings ⌝ }
-{
-    match act {
-        Act::Keep => settings,
-        Act::Store(_, _) => settings,
-        Act::Obey(code) => obeyed_as(commands::meaning(2 * (code as u16)), settings),
-    }
-}
-
-impl Port {
-    // The port after a sample of these levels.
-    pub fn moved(self, levels: Levels) -> Moved
-        ensures { λ r. ⌜ r ≡ moved self levels ⌝ }
-    {
-        let memory = self.memory;
-        let before = self.levels;
-        let phase = self.phase;
-        let line = self.line;
-        let nibble = nibble_at(memory, phase.address());
-        let framed = frames::frame_after(frames::edge_of(before, levels), nibble, phase, line);
-        let answer = framed.answer;
-        let next = framed.phase;
-        let driven = framed.line;
-        Moved {
-            port: Port {
-                memory: memory_after(answer.act(), memory),
-                levels,
-                phase: next,
-                line: driven,
+    match commands::meaning(2 * (code as u16)) {
+        Decoded::Undefined => Stepped {
+            chip: Chip { port, settings },
+            answer: Answer::Passed(code),
+        },
+        Decoded::Means(command) => Stepped {
+            chip: Chip {
+                port,
+                settings: rules::obeyed(settings, command),
             },
-            answer,
-        }
+            answer: Answer::Obeyed(code),
+        },
     }
 }
 
 impl Chip {
+    // The chip after a sample of these levels.
+    pub fn step_to(self, levels: Levels) -> Stepped
+        ensures { λ r. ⌜ r ≡ steppedTo self levels ⌝ }
+    {
+        let port = self.port;
+        let settings = self.settings;
+        let moved = port.moved(levels);
+        let upshot = moved.upshot;
+        let next = moved.port;
+        match upshot {
+            Upshot::Answered(answer) => Stepped {
+                chip: Chip {
+                    port: next,
+                    settings,
+                },
+                answer,
+            },
+            Upshot::Nibble(at, nibble) => Stepped {
+                chip: Chip {
+                    port: next,
+                    settings,
+                },
+                answer: Answer::Stored(at, nibble),
+            },
+            Upshot::Code(code) => commanded(next, settings, code),
+        }
+    }
+
     // The chip after a sample. One above 15 is refused and changes nothing.
     pub fn step(self, sample: u8) -> Stepped
         ensures { λ r. ⌜ r ≡ stepped self sample ⌝ }
@@ -152,18 +109,7 @@ impl Chip {
                 answer: Answer::Refused(Refusal::SampleAbove),
             };
         }
-        let port = self.port;
-        let settings = self.settings;
-        let moved = port.moved(frames::levels_of(sample));
-        let answer = moved.answer;
-        let next = moved.port;
-        Stepped {
-            chip: Chip {
-                port: next,
-                settings: settings_after(answer.act(), settings),
-            },
-            answer,
-        }
+        self.step_to(lines::levels_of(sample))
     }
 
     // The chip after one tick of the system clock.
@@ -172,8 +118,8 @@ impl Chip {
     {
         let settings = self.settings;
         let mut next = self;
-        next.settings = settings.ticked();
-        next // a tick later
+        next.settings = ticks::ticked(settings);
+        next
     }
 
     // The chip after `ticks` single ticks.
@@ -182,8 +128,8 @@ impl Chip {
     {
         let settings = self.settings;
         let mut next = self;
-        next.settings = settings.advanced(ticks);
-        next // all ticks later
+        next.settings = ticks::advanced(settings, ticks);
+        next
     }
 
     // What the pins show.
@@ -205,12 +151,12 @@ impl Chip {
 }
 
 // Each nibble under a mask.
-fn under_mask(memory: [u8; 32], mask: u8) -> [u8; 32]
+fn under_mask(memory: [u8; ADDRESSES], mask: u8) -> [u8; ADDRESSES]
     ensures { λ r. ⌜ r ≡ map (λ n. bitAnd n mask) memory ⌝ }
 {
     let mut cells = memory;
     let mut i: usize = 0;
-    while i < 32 {
+    while i < ADDRESSES {
         cells[i] = memory[i] & mask;
         i += 1;
     }
@@ -218,17 +164,17 @@ fn under_mask(memory: [u8; 32], mask: u8) -> [u8; 32]
 }
 
 // A chip that has just been powered on with this memory.
-fn fresh(memory: [u8; 32]) -> Chip
+fn fresh(memory: [u8; ADDRESSES]) -> Chip
     ensures { λ r. ⌜ r ≡ freshChip memory ⌝ }
 {
     Chip {
         port: Port {
             memory,
-            levels: frames::levels_of(15),
+            levels: lines::levels_of(15),
             phase: Phase::Idle,
             line: Line::Released,
         },
-        settings: Settings::power_on(),
+        settings: rules::power_on(),
     }
 }
 
@@ -236,7 +182,7 @@ fn fresh(memory: [u8; 32]) -> Chip
 pub fn empty() -> Chip
     ensures { λ r. ⌜ r ≡ emptyChip ⌝ }
 {
-    fresh([0u8; 32])
+    fresh([0u8; ADDRESSES])
 }
 
 fn not_started(refusal: Refusal) -> PoweredOn
@@ -252,7 +198,7 @@ fn not_started(refusal: Refusal) -> PoweredOn
 pub fn power_on(memory: &[u8]) -> PoweredOn
     ensures { λ r. ⌜ r ≡ poweredOn (now (memory .entry)) ⌝ }
 {
-    if memory.len() != 32 {
+    if memory.len() != ADDRESSES {
         return not_started(Refusal::MemoryCount);
     }
     let place = ground::first_above(memory, 15);

@@ -14,7 +14,7 @@ use Rattle.ground.specs.Written.{over}
 use Rattle.ground.proofs.WrittenLaws.{take-over}
 use Rattle.ground.proofs.PlacesLaws.{lowest-below, none-above}
 use Rattle.commands.specs.Commands.{codeMeaning}
-use Rattle.chip.specs.Valid.{Nibbles}
+use Rattle.port.specs.Valid.{Nibbles}
 use Rattle.ground.specs.declared.Outcome.the-variants.{Written}
 use Rattle.ground.specs.Outcomes.{left}
 use Rattle.driver.specs.Refusals.{outsideMemory, nibbleFault, commandFault, writeAnswer}

@@ -4,14 +4,15 @@ use mathlib.Core.Bool.{Bool, true, false}
 use Prim.Native.Nat.{ℕ}
 use Rattle.commands.specs.Commands.{byteMeaning}
 use Rattle.clock.specs.declared.Source.{Source}
-use Rattle.rules.specs.declared.IrqSource.{IrqSource}
-use Rattle.rules.specs.declared.Settings.{Settings}
+use Rattle.settings.specs.declared.IrqSource.{IrqSource}
+use Rattle.settings.specs.declared.Settings.{Settings}
 use Rattle.rules.specs.Effects.{effect}
-use Rattle.rules.specs.Ticks.{running, ticked, advanced}
+use Rattle.ticks.specs.Ticks.{running, ticked, advanced}
 use Rattle.clock.specs.Ticks.{due, timerStepped, baseTicked, prescaledTick, countersTicked}
 use Rattle.pins.specs.Pins.{irqLow}
 use Rattle.frames.specs.Frames.{frame, closed}
-use Rattle.chip.specs.Chip.{stepped, moved, framedBy, memoryAfter, settingsAfter, obeyedAs}
+use Rattle.chip.specs.Chip.{stepped, settingsAfter, obeyedAs}
+use Rattle.port.specs.Port.{moved, framedBy, memoryAfter}
 use Rattle.driver.specs.Streams.{commandStream}
 use Rattle.driver.proofs.CasesLaws.{write-one, write-thirty-two, read-one, read-thirty-two, write-at-31, write-past-31, read-at-31, read-past-31}
 use Rattle.demands.specs.Cases.{Cleared, Cases}

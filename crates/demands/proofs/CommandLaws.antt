@@ -10,15 +10,16 @@ use Rattle.ground.specs.Values.{values, agree}
 use Rattle.commands.specs.declared.Decoded.{Decoded}
 use Rattle.commands.specs.declared.Decoded.the-variants.{Undefined, Means}
 use Rattle.commands.specs.Commands.{codeMeaning, undefined}
-use Rattle.frames.specs.declared.Levels.{Levels}
-use Rattle.frames.specs.declared.Phase.the-variants.{Command}
-use Rattle.frames.specs.declared.Line.the-variants.{Released}
-use Rattle.frames.specs.declared.Answer.{Answer}
-use Rattle.frames.specs.declared.Answer.the-variants.{Nothing, Opened, Closed, Obeyed}
-use Rattle.frames.specs.Frames.{more, frame, closed, taken, identTaken, identified, commandTaken, commandAnswer, decodedAnswer}
-use Rattle.frames.specs.Answers.{act}
-use Rattle.chip.specs.declared.Port.{Port}
-use Rattle.chip.specs.Chip.{memoryAfter, framedBy, moved}
+use Rattle.lines.specs.declared.Levels.{Levels}
+use Rattle.phases.specs.declared.Phase.the-variants.{Command}
+use Rattle.phases.specs.declared.Line.the-variants.{Released}
+use Rattle.answers.specs.declared.Answer.{Answer}
+use Rattle.answers.specs.declared.Answer.the-variants.{Nothing, Opened, Closed, Obeyed}
+use Rattle.frames.specs.Frames.{more, frame, closed, taken, identTaken, identified, commandTaken, commandAnswer}
+use Rattle.chip.specs.Chip.{decodedAnswer}
+use Rattle.answers.specs.Answers.{act}
+use Rattle.port.specs.declared.Port.{Port}
+use Rattle.port.specs.Port.{memoryAfter, framedBy, moved}
 use Rattle.driver.specs.Refusals.{commandFault}
 use Rattle.driver.specs.Streams.{commandId, commandBits}
 use Rattle.demands.proofs.Ports.{runP, run-append, trace, trace-append, idle, high, high-idles}

@@ -5,17 +5,18 @@ use mathlib.Core.List.{List, [], _∷_, _++_, map}
 use Prim.Native.Nat.{ℕ, zero, suc, _+_, _≤_, _<_}
 use native.Mathlib.Omega.{arith}
 use lib.ListN.{length, take, drop, length-take, length-drop, take-append-drop}
-use Rattle.frames.specs.declared.Levels.{Levels}
-use Rattle.frames.specs.declared.Act.{Act}
-use Rattle.frames.specs.declared.Act.the-variants.{Keep}
-use Rattle.frames.specs.declared.Answer.{Answer}
-use Rattle.frames.specs.declared.Answer.the-variants.{Nothing, Opened, Closed, Taken}
-use Rattle.frames.specs.Samples.{levels}
-use Rattle.frames.specs.Answers.{act}
-use Rattle.chip.specs.declared.Port.{Port}
+use Rattle.lines.specs.declared.Levels.{Levels}
+use Rattle.answers.specs.Answers.{Act}
+use Rattle.answers.specs.Answers.{Keep}
+use Rattle.answers.specs.declared.Answer.{Answer}
+use Rattle.answers.specs.declared.Answer.the-variants.{Nothing, Opened, Closed, Taken}
+use Rattle.lines.specs.Samples.{levels}
+use Rattle.answers.specs.Answers.{act}
+use Rattle.port.specs.declared.Port.{Port}
 use Rattle.chip.specs.declared.Chip.{Chip}
-use Rattle.chip.specs.Chip.{moved}
-use Rattle.chip.specs.Valid.{Nibbles, Valid}
+use Rattle.port.specs.Port.{moved}
+use Rattle.port.specs.Valid.{Nibbles}
+use Rattle.chip.specs.Valid.{Valid}
 use Rattle.driver.specs.Streams.{writeStream, readStream, commandStream}
 use Rattle.demands.specs.Events.{Event, samples, answers}
 use Rattle.demands.specs.Demand2.{StoredAt, ObeyedAt, storedBy, stores, dueStores, obeyedBy, obeys, dueCommands, lastAnswer, between, Writes, Reads, Commands, Demand2}

@@ -9,13 +9,13 @@ use lib.Dec.{leb}
 use lib.ListN.{length, take, drop, length-take}
 use lib.Seq.{sets, sets-eq, paste, drop-at, length-take-le, take-all}
 use borrow.Author.Tests.{leb-true, leb-false}
-use Rattle.frames.specs.declared.Levels.{Levels}
-use Rattle.frames.specs.declared.Answer.{Answer}
-use Rattle.frames.specs.declared.Answer.the-variants.{Opened}
-use Rattle.frames.specs.Samples.{levels}
-use Rattle.chip.specs.declared.Port.{Port}
+use Rattle.lines.specs.declared.Levels.{Levels}
+use Rattle.answers.specs.declared.Answer.{Answer}
+use Rattle.answers.specs.declared.Answer.the-variants.{Opened}
+use Rattle.lines.specs.Samples.{levels}
+use Rattle.port.specs.declared.Port.{Port}
 use Rattle.chip.specs.declared.Chip.{Chip}
-use Rattle.chip.specs.Chip.{moved}
+use Rattle.port.specs.Port.{moved}
 use Rattle.driver.specs.Streams.{writeStream, readStream}
 use Rattle.demands.specs.Events.{Event, after, samples, answers, notes, ReadsAs}
 use Rattle.demands.specs.Demand3.{completing, completed, Demand3}

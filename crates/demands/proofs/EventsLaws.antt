@@ -4,7 +4,7 @@ use mathlib.Core.List.{List, _++_}
 use Prim.Native.Nat.{ℕ, zero, suc, _+_}
 use native.Mathlib.Omega.{arith}
 use lib.ListN.{replicate}
-use Rattle.rules.specs.Ticks as rules
+use Rattle.ticks.specs.Ticks as rules
 use Rattle.chip.specs.declared.Chip.{Chip}
 use Rattle.chip.specs.Chip.{ticked, advanced}
 use Rattle.demands.specs.Events.{Event, tick, after, samples, ticks, answers, notes}

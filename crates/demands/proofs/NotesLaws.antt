@@ -10,7 +10,7 @@ use borrow.Author.Tests.{le-ltb, eq-eqb, ne-eqb}
 use Rattle.ground.specs.Bits.{bitAt, bitNumber}
 use Rattle.ground.specs.Places.{lowest, somewhere}
 use Rattle.ground.specs.Values.{values, agree}
-use Rattle.chip.specs.Valid.{Nibbles}
+use Rattle.port.specs.Valid.{Nibbles}
 use Rattle.driver.specs.Refusals.{notedFault, miscounted, decodeAnswer}
 use Rattle.driver.specs.Streams.{nibbleOf, decoded}
 use Rattle.demands.specs.Events.{ReadsAs}

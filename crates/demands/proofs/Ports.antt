@@ -7,19 +7,21 @@ use Prim.Native.Nat.{ℕ, zero, suc, _≤_}
 use lib.Dec.{eqb}
 use lib.ListN.{take}
 use borrow.Author.Tests.{le-ltb}
-use Rattle.frames.specs.declared.Levels.{Levels}
-use Rattle.frames.specs.declared.Phase.the-variants.{Idle}
-use Rattle.frames.specs.declared.Line.the-variants.{Released}
-use Rattle.frames.specs.declared.Edge.the-variants.{Rests, Closes}
-use Rattle.frames.specs.declared.Answer.{Answer}
-use Rattle.frames.specs.declared.Answer.the-variants.{Nothing, Closed, Dropped}
-use Rattle.frames.specs.declared.Act.the-variants.{Keep}
-use Rattle.frames.specs.Samples.{levels}
+use Rattle.lines.specs.declared.Levels.{Levels}
+use Rattle.phases.specs.declared.Phase.the-variants.{Idle}
+use Rattle.phases.specs.declared.Line.the-variants.{Released}
+use Rattle.lines.specs.declared.Edge.the-variants.{Rests, Closes}
+use Rattle.answers.specs.declared.Answer.{Answer}
+use Rattle.answers.specs.declared.Answer.the-variants.{Nothing, Closed, Dropped}
+use Rattle.answers.specs.Answers.{Keep}
+use Rattle.lines.specs.Samples.{levels}
 use Rattle.frames.specs.Frames.{frame, closed}
-use Rattle.frames.specs.Answers.{act, unfinished}
-use Rattle.chip.specs.declared.Port.{Port}
+use Rattle.answers.specs.Answers.{act}
+use Rattle.phases.specs.Phases.{unfinished}
+use Rattle.port.specs.declared.Port.{Port}
 use Rattle.chip.specs.declared.Chip.{Chip}
-use Rattle.chip.specs.Chip.{memoryAfter, framedBy, moved, stepped}
+use Rattle.port.specs.Port.{memoryAfter, framedBy, moved}
+use Rattle.chip.specs.Chip.{stepped}
 use Rattle.demands.specs.Events.{Event, sample, tick, happened, after, samples, answers}
 
 -- every sample is one of the sixteen

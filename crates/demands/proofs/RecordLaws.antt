@@ -8,15 +8,16 @@ use native.Mathlib.Nat.{add-zero}
 use lib.Dec.{eqb}
 use lib.ListN.{take, drop, replicate}
 use Rattle.ground.specs.Bits.{bitAt}
-use Rattle.rules.specs.declared.Settings.{Settings}
-use Rattle.rules.specs.Ticks as ticks
-use Rattle.frames.specs.declared.Levels.{Levels}
-use Rattle.frames.specs.declared.Answer.{Answer}
-use Rattle.frames.specs.declared.Answer.the-variants.{Nothing, Opened, Closed, Dropped, Stored, Obeyed}
-use Rattle.frames.specs.Samples.{levels}
-use Rattle.frames.specs.Answers.{unfinished}
+use Rattle.settings.specs.declared.Settings.{Settings}
+use Rattle.ticks.specs.Ticks as ticks
+use Rattle.lines.specs.declared.Levels.{Levels}
+use Rattle.answers.specs.declared.Answer.{Answer}
+use Rattle.answers.specs.declared.Answer.the-variants.{Nothing, Opened, Closed, Dropped, Stored, Obeyed}
+use Rattle.lines.specs.Samples.{levels}
+use Rattle.phases.specs.Phases.{unfinished}
 use Rattle.chip.specs.declared.Chip.{Chip}
-use Rattle.chip.specs.Chip.{moved, advanced}
+use Rattle.port.specs.Port.{moved}
+use Rattle.chip.specs.Chip.{advanced}
 use Rattle.chip.specs.Valid.{Valid}
 use Rattle.chip.proofs.ValidLaws.{advanced-valid}
 use Rattle.place.specs.Place.{answerCode}

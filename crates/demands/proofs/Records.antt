@@ -6,7 +6,7 @@ use mathlib.Core.List.{List, map}
 use Prim.Native.Nat.{ℕ}
 use lib.ListN.{length, take, drop}
 use lib.Seq.{paste}
-use Rattle.frames.specs.Samples.{levels}
+use Rattle.lines.specs.Samples.{levels}
 use Rattle.chip.specs.Valid.{Valid}
 use Rattle.state.specs.Record.{recordOf, recordValid, chipOf}
 use Rattle.state.proofs.ChipLaws.{valid-chip, chip-valid}

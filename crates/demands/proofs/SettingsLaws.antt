@@ -6,12 +6,12 @@ use Prim.Native.Nat.{ℕ, zero, suc, _≤_, _<_}
 use native.Mathlib.Omega.{arith}
 use lib.ListN.{take}
 use borrow.Author.Tests.{le-ltb, eq-eqb, ne-eqb}
-use Rattle.rules.specs.declared.Settings.{Settings}
-use Rattle.rules.specs.Ticks.{ticked, advanced}
-use Rattle.frames.specs.declared.Act.{Act}
-use Rattle.frames.specs.declared.Act.the-variants.{Keep, Store, Obey}
-use Rattle.frames.specs.declared.Answer.{Answer}
-use Rattle.frames.specs.Answers.{act}
+use Rattle.settings.specs.declared.Settings.{Settings}
+use Rattle.ticks.specs.Ticks.{ticked, advanced}
+use Rattle.answers.specs.Answers.{Act}
+use Rattle.answers.specs.Answers.{Keep, Store, Obey}
+use Rattle.answers.specs.declared.Answer.{Answer}
+use Rattle.answers.specs.Answers.{act}
 use Rattle.chip.specs.declared.Chip.{Chip}
 use Rattle.chip.specs.Chip.{settingsAfter, stepped}
 use Rattle.demands.specs.Events.{Event, sample, tick, happened, after, samples, ticks, answers}

@@ -5,9 +5,9 @@ use mathlib.Core.List.{List, [], _∷_, _++_, map}
 use Prim.Native.Nat.{ℕ, zero, suc}
 use native.Mathlib.Omega.{arith}
 use lib.ListN.{take}
-use Rattle.frames.specs.declared.Levels.{Levels}
-use Rattle.frames.specs.Samples.{levels}
-use Rattle.chip.specs.declared.Port.{Port}
+use Rattle.lines.specs.declared.Levels.{Levels}
+use Rattle.lines.specs.Samples.{levels}
+use Rattle.port.specs.declared.Port.{Port}
 use Rattle.driver.specs.Streams.{sendBits, opening, writeId, readId, commandId, addressBits, nibbleBits, commandBits, sendNibbles, readNibbles, sendCommands, writeStream, readStream, commandStream}
 use Rattle.demands.proofs.Ports.{Sixteen, runP, idle, high, high-idles}
 

@@ -6,12 +6,12 @@ use Prim.Native.Nat.{ℕ, zero, suc, _+_, _%_, _≤_, _<_}
 use native.Mathlib.Omega.{arith}
 use lib.ListN.{length, set}
 use Rattle.ground.specs.Bits.{bitAt}
-use Rattle.frames.specs.declared.Answer.{Answer}
-use Rattle.frames.specs.declared.Answer.the-variants.{Nothing, Opened, Closed, Taken, Stored}
+use Rattle.answers.specs.declared.Answer.{Answer}
+use Rattle.answers.specs.declared.Answer.the-variants.{Nothing, Opened, Closed, Taken, Stored}
 use Rattle.frames.specs.Frames.{frame, closed, taken, identTaken, identified, writeToTaken, nibbleTaken}
-use Rattle.chip.specs.declared.Port.{Port}
-use Rattle.chip.specs.Chip.{memoryAfter, framedBy, moved}
-use Rattle.chip.specs.Valid.{Nibbles}
+use Rattle.port.specs.declared.Port.{Port}
+use Rattle.port.specs.Port.{memoryAfter, framedBy, moved}
+use Rattle.port.specs.Valid.{Nibbles}
 use Rattle.driver.specs.Streams.{writeId, addressBits, nibbleBits}
 use Rattle.demands.proofs.Ports.{runP, trace, trace-append, idle, high, high-idles}
 use Rattle.demands.proofs.SettingsLaws.{Plain}

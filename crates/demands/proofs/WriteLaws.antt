@@ -10,13 +10,13 @@ use lib.ListN.{length, getD, set, take, replicate}
 use lib.Seq.{sets, take-nil, take-all, set-comm, set-set}
 use Rattle.ground.specs.Bits.{bitAt}
 use Rattle.ground.specs.Values.{values, agree}
-use Rattle.frames.specs.declared.Levels.{Levels}
-use Rattle.frames.specs.declared.Phase.the-variants.{Writing}
-use Rattle.frames.specs.declared.Line.the-variants.{Released}
+use Rattle.lines.specs.declared.Levels.{Levels}
+use Rattle.phases.specs.declared.Phase.the-variants.{Writing}
+use Rattle.phases.specs.declared.Line.the-variants.{Released}
 use Rattle.frames.specs.Frames.{more, turned, next, reached, frame, closed, taken, identTaken, identified, writeToTaken, nibbleTaken}
-use Rattle.chip.specs.declared.Port.{Port}
-use Rattle.chip.specs.Chip.{memoryAfter, framedBy, moved}
-use Rattle.chip.specs.Valid.{Nibbles}
+use Rattle.port.specs.declared.Port.{Port}
+use Rattle.port.specs.Port.{memoryAfter, framedBy, moved}
+use Rattle.port.specs.Valid.{Nibbles}
 use Rattle.driver.specs.Streams.{writeId, addressBits, nibbleBits}
 use Rattle.demands.proofs.Ports.{runP, idle, high, high-idles}
 use Rattle.demands.proofs.StreamLevels.{up, bitsL, headL, nibblesL}

@@ -13,11 +13,11 @@ use Rattle.commands.specs.declared.Decoded.the-variants.{Undefined, Means}
 use Rattle.commands.specs.Commands.{byteMeaning}
 use Rattle.clock.specs.declared.Source.{Source}
 use Rattle.clock.specs.declared.Source.the-variants.{Xtal, Rc}
-use Rattle.rules.specs.declared.IrqSource.the-variants.{TimeBase}
-use Rattle.rules.specs.declared.Settings.{Settings}
-use Rattle.rules.specs.Ticks.{advanced}
+use Rattle.settings.specs.declared.IrqSource.the-variants.{TimeBase}
+use Rattle.settings.specs.declared.Settings.{Settings}
+use Rattle.ticks.specs.Ticks.{advanced}
 use Rattle.pins.specs.Pins.{irqLow}
-use Rattle.frames.specs.Answers.{answerNumber}
+use Rattle.answers.specs.Answers.{answerNumber}
 use Rattle.chip.specs.declared.Chip.{Chip}
 use Rattle.chip.specs.Chip.{stepped, obeyedAs}
 use Rattle.chip.specs.PowerOn.{freshChip}

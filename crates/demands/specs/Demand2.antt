@@ -9,13 +9,13 @@ use lib.Dec.{eqb}
 use lib.ListN.{length, take, drop}
 use lib.Seq.{paste}
 use Rattle.commands.specs.Commands.{codeMeaning}
-use Rattle.rules.specs.declared.Settings.{Settings}
-use Rattle.rules.specs.Ticks.{ticked, advanced}
-use Rattle.frames.specs.declared.Act.{Act}
-use Rattle.frames.specs.declared.Act.the-variants.{Keep, Store, Obey}
-use Rattle.frames.specs.declared.Answer.{Answer}
-use Rattle.frames.specs.declared.Answer.the-variants.{Nothing, Closed}
-use Rattle.frames.specs.Answers.{act}
+use Rattle.settings.specs.declared.Settings.{Settings}
+use Rattle.ticks.specs.Ticks.{ticked, advanced}
+use Rattle.answers.specs.Answers.{Act}
+use Rattle.answers.specs.Answers.{Keep, Store, Obey}
+use Rattle.answers.specs.declared.Answer.{Answer}
+use Rattle.answers.specs.declared.Answer.the-variants.{Nothing, Closed}
+use Rattle.answers.specs.Answers.{act}
 use Rattle.chip.specs.declared.Chip.{Chip}
 use Rattle.chip.specs.Chip.{obeyedAs}
 use Rattle.chip.specs.Valid.{Valid}

@@ -9,7 +9,7 @@ use Prim.Native.Nat.{ℕ, zero, suc, _+_, _*_}
 use lib.Dec.{leb}
 use lib.ListN.{length, take}
 use lib.Seq.{paste}
-use Rattle.rules.specs.Ticks.{advanced}
+use Rattle.ticks.specs.Ticks.{advanced}
 use Rattle.chip.specs.declared.Chip.{Chip}
 use Rattle.chip.specs.Valid.{Valid}
 use Rattle.driver.specs.Streams.{writeStream, readStream}

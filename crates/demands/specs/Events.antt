@@ -7,9 +7,9 @@ use mathlib.Core.List.{List, [], _∷_}
 use lib.Dec.{eqb}
 use lib.ListN.{length}
 use Rattle.ground.specs.Bits.{bitNumber}
-use Rattle.frames.specs.declared.Answer.{Answer}
-use Rattle.frames.specs.declared.Line.{Line}
-use Rattle.frames.specs.declared.Line.the-variants.{Released, Driven}
+use Rattle.answers.specs.declared.Answer.{Answer}
+use Rattle.phases.specs.declared.Line.{Line}
+use Rattle.phases.specs.declared.Line.the-variants.{Released, Driven}
 use Rattle.chip.specs.declared.Chip.{Chip}
 use Rattle.chip.specs.Chip as chip
 use Rattle.ground.specs.declared.Outcome.the-variants.{Written}

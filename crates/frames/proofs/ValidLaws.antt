@@ -10,30 +10,21 @@ use lib.Dec.{eqb, ltb}
 use borrow.Author.Tests.{ltb-true}
 use Rattle.ground.specs.Bits.{bitNumber}
 use Rattle.ground.proofs.ChoiceLaws.{either, by-cases}
-use Rattle.commands.specs.declared.Decoded.{Decoded}
-use Rattle.commands.specs.declared.Decoded.the-variants.{Undefined, Means}
-use Rattle.commands.specs.Commands.{codeMeaning}
-use Rattle.frames.specs.declared.Edge.the-variants.{Rests, Closes, Opens}
-use Rattle.frames.specs.declared.Phase.{Phase}
-use Rattle.frames.specs.declared.Phase.the-variants.{Idle, Ident, ReadTo, WriteTo, Reading, Writing, Command, Dead}
-use Rattle.frames.specs.declared.Line.{Line}
-use Rattle.frames.specs.declared.Line.the-variants.{Released, Driven}
-use Rattle.frames.specs.declared.Answer.{Answer}
+use Rattle.lines.specs.declared.Edge.the-variants.{Rests, Closes, Opens}
+use Rattle.phases.specs.declared.Phase.{Phase}
+use Rattle.phases.specs.declared.Phase.the-variants.{Idle, Ident, ReadTo, WriteTo, Reading, Writing, Command, Dead}
+use Rattle.phases.specs.declared.Line.{Line}
+use Rattle.phases.specs.declared.Line.the-variants.{Released, Driven}
 use Rattle.frames.specs.declared.Framed.{Framed}
-use Rattle.frames.specs.Samples.{clocked}
-use Rattle.frames.specs.Frames.{more, turned, decodedAnswer, identified, identTaken, readToTaken, writeToTaken, nibbleTaken, commandAnswer, commandTaken, taken, readOffered, offered, closed, frame}
-use Rattle.frames.specs.Answers.{act, unfinished, lineNumber}
-use Rattle.frames.specs.Valid.{FrameValid, ActValid}
-
--- what the chip does to DATA is one of three
-pub line-small : (line : Line) → lineNumber line ≤ 2
-line-small Released = omega arith
-line-small (Driven true) = omega arith
-line-small (Driven false) = omega arith
+use Rattle.lines.specs.Samples.{clocked}
+use Rattle.frames.specs.Frames.{more, turned, identified, identTaken, readToTaken, writeToTaken, nibbleTaken, commandTaken, taken, readOffered, offered, closed, frame}
+use Rattle.phases.specs.Phases.{round, unfinished}
+use Rattle.phases.specs.Valid.{FrameValid}
+use Rattle.frames.specs.Valid.{UpshotValid}
 
 -- a frame that is open and valid, and stores only nibbles
 abbrev Kept : Framed → Type 0
-Kept f = FrameValid false (f .line) (f .phase) × ActValid (act (f .answer))
+Kept f = FrameValid false (f .line) (f .phase) × UpshotValid (f .upshot)
 
 bit-small : (b : Bool) → bitNumber b ≤ 1
 bit-small true = omega arith
@@ -78,24 +69,19 @@ module _ (bit : Bool) (count value : ℕ) (small : value < 2 ^ count) where
       (λ t. let h = ltb-true count 5 t in ((refl, refl, (omega arith, more-small count value bit small)), tt))
       (λ _. ((refl, (omega arith, omega arith), omega arith, omega arith), tt))
 
-  nibbleTaken-kept : (at position : ℕ) → at < 32 → position < 4 → Kept (nibbleTaken bit count value at position)
+  nibbleTaken-kept : (at position : ℕ) → at < round → position < 4 → Kept (nibbleTaken bit count value at position)
   unfolding nibbleTaken
   nibbleTaken-kept at position a p =
       by-cases Kept (ltb count 3)
       (λ t. let h = ltb-true count 3 t in ((refl, (omega arith, more-small count value bit small), a, p), tt))
       (λ _. ((refl, (omega arith, omega arith), omega arith, omega arith), turned-small (more value bit)))
 
-  -- an obeyed command stores nothing
-  decodedAnswer-kept : (decoded : Decoded) (code : ℕ) → ActValid (act (decodedAnswer decoded code))
-  decodedAnswer-kept Undefined code = tt
-  decodedAnswer-kept (Means command) code = tt
-
   commandTaken-kept : Kept (commandTaken bit count value)
-  unfolding commandTaken commandAnswer
+  unfolding commandTaken
   commandTaken-kept =
       by-cases Kept (ltb count 8)
       (λ t. let h = ltb-true count 8 t in ((refl, refl, (omega arith, more-small count value bit small)), tt))
-      (λ _. ((refl, refl, (omega arith, omega arith)), decodedAnswer-kept (codeMeaning (more value bit)) (more value bit / 2 % 256)))
+      (λ _. ((refl, refl, (omega arith, omega arith)), tt))
 
 taken-kept : (bit : Bool) (phase : Phase) (line : Line) → FrameValid false line phase → Kept (taken bit phase line)
 unfolding taken
@@ -108,7 +94,7 @@ taken-kept bit (Writing count value at position) line v = nibbleTaken-kept bit c
 taken-kept bit (Command count value) line v = commandTaken-kept bit count value (v .2 .1)
 taken-kept bit Dead line v = (v, tt)
 
-readOffered-kept : (nibble at position : ℕ) → at < 32 → position < 4 → Kept (readOffered nibble at position)
+readOffered-kept : (nibble at position : ℕ) → at < round → position < 4 → Kept (readOffered nibble at position)
 unfolding readOffered
 readOffered-kept nibble at position a p = (
   by-cases (λ (q : Phase). FrameValid false (readOffered nibble at position .line) q) (ltb position 3)
@@ -131,11 +117,11 @@ offered-kept nibble Dead line v = (v, tt)
 -- a frame after a sample, by CS before and after and by the clocks
 pub frame-valid : (before after rise fall bit : Bool) (nibble : ℕ) (phase : Phase) (line : Line) → FrameValid before line phase
     → (let f = frame (cond after (cond before Rests Closes) (cond before Opens (clocked rise fall bit))) nibble phase line in
-    FrameValid after (f .line) (f .phase) × ActValid (act (f .answer)))
+    FrameValid after (f .line) (f .phase) × UpshotValid (f .upshot))
 unfolding frame closed
 frame-valid true true rise fall bit nibble phase line v = ((refl, refl), tt)
 frame-valid false true rise fall bit nibble phase line v =
-    ((refl, refl), either (λ (a : Answer). ActValid (act a)) (eqb (unfinished phase) 0) tt tt)
+    ((refl, refl), tt)
 frame-valid true false rise fall bit nibble phase line v = ((refl, refl, (omega arith, omega arith)), tt)
 frame-valid false false true true bit nibble phase line v = (v, tt)
 frame-valid false false true false bit nibble phase line v = taken-kept bit phase line v

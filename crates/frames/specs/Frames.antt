@@ -4,22 +4,22 @@ use Prim.Native.Nat.{ℕ, _+_, _*_, _/_, _%_}
 use mathlib.Core.Bool.{Bool, cond}
 use lib.Dec.{eqb, ltb}
 use Rattle.ground.specs.Bits.{bitAt, bitNumber}
-use Rattle.commands.specs.declared.Decoded.{Decoded}
-use Rattle.commands.specs.declared.Decoded.the-variants.{Undefined, Means}
-use Rattle.commands.specs.Commands.{codeMeaning}
-use Rattle.frames.specs.declared.Edge.{Edge}
-use Rattle.frames.specs.declared.Edge.the-variants.{Rests, Closes, Opens, Clashes, Takes, Offers, Quiet}
-use Rattle.frames.specs.declared.Phase.{Phase}
-use Rattle.frames.specs.declared.Phase.the-variants.{Idle, Ident, ReadTo, WriteTo, Reading, Writing, Command, Dead}
-use Rattle.frames.specs.declared.Line.{Line}
-use Rattle.frames.specs.declared.Line.the-variants.{Released, Driven}
-use Rattle.frames.specs.declared.Answer.{Answer}
-use Rattle.frames.specs.declared.Answer.the-variants.{Nothing, Opened, Closed, Dropped, Taken, Stored, Obeyed, Passed, Offered, Stray, Unknown, Clash}
+use Rattle.lines.specs.declared.Edge.{Edge}
+use Rattle.lines.specs.declared.Edge.the-variants.{Rests, Closes, Opens, Clashes, Takes, Offers, Quiet}
+use Rattle.phases.specs.declared.Phase.{Phase}
+use Rattle.phases.specs.declared.Phase.the-variants.{Idle, Ident, ReadTo, WriteTo, Reading, Writing, Command, Dead}
+use Rattle.phases.specs.declared.Line.{Line}
+use Rattle.phases.specs.declared.Line.the-variants.{Released, Driven}
+use Rattle.answers.specs.declared.Answer.{Answer}
+use Rattle.answers.specs.declared.Answer.the-variants.{Nothing, Opened, Closed, Dropped, Taken, Offered, Stray, Unknown, Clash}
+use Rattle.frames.specs.declared.Upshot.{Upshot}
+use Rattle.frames.specs.declared.Upshot.the-variants.{Answered, Nibble, Code}
 use Rattle.frames.specs.declared.Framed.{Framed}
-use Rattle.frames.specs.Answers.{unfinished}
+use Rattle.phases.specs.Phases.{round}
+use Rattle.phases.specs.Phases.{unfinished}
 
-abbrev pub framed : Phase → Line → Answer → Framed
-framed phase line answer = record { phase = phase; line = line; answer = answer }
+abbrev pub framed : Phase → Line → Upshot → Framed
+framed phase line upshot = record { phase = phase; line = line; upshot = upshot }
 
 -- The bits so far with one more, the first highest. Nine are the most that a phase collects.
 abbrev pub more : ℕ → Bool → ℕ
@@ -29,20 +29,20 @@ more value bit = (2 * value + bitNumber bit) % 512
 abbrev pub turned : ℕ → ℕ
 turned value = value / 8 % 2 + 2 * (value / 4 % 2) + 4 * (value / 2 % 2) + 8 * (value % 2)
 
--- By the house rule A5 counts for nothing: an address is its lower five bits, and after 31 comes 0.
+-- The address that six bits say, and the address after an address: both go round.
 abbrev pub reached : ℕ → ℕ
-reached value = value % 32
+reached value = value % round
 
 abbrev pub next : ℕ → ℕ
-next address = (address + 1) % 32
+next at = (at + 1) % round
 
 -- A stray edge changes neither the frame nor DATA.
 abbrev pub stray : Phase → Line → Framed
-stray phase line = framed phase line Stray
+stray phase line = framed phase line (Answered Stray)
 
 -- A bit that is taken and leaves the frame in a phase: DATA is released.
 abbrev pub collected : Phase → Framed
-collected phase = framed phase Released Taken
+collected phase = framed phase Released (Answered Taken)
 
 -- Three bits of ID: 110 reads, 101 writes, 100 commands; with any other the frame is dead.
 unfoldable pub identified : ℕ → Framed
@@ -50,7 +50,7 @@ identified id =
     cond (eqb id 6) (collected (ReadTo 0 0))
     (cond (eqb id 5) (collected (WriteTo 0 0))
     (cond (eqb id 4) (collected (Command 0 0))
-    (framed Dead Released Unknown)))
+    (framed Dead Released (Answered Unknown))))
 
 unfoldable pub identTaken : Bool → ℕ → ℕ → Framed
 identTaken bit count value =
@@ -70,21 +70,13 @@ writeToTaken bit count value =
 unfoldable pub nibbleTaken : Bool → ℕ → ℕ → ℕ → ℕ → Framed
 nibbleTaken bit count value at position =
     cond (ltb count 3) (collected (Writing (count + 1) (more value bit) at position))
-    (framed (Writing 0 0 (next at) 0) Released (Stored at (turned (more value bit))))
+    (framed (Writing 0 0 (next at) 0) Released (Nibble at (turned (more value bit))))
 
--- Nine command bits, highest first, the last ignored: the upper eight are a code, which is obeyed or passed over; more
--- commands follow without an ID.
-abbrev pub decodedAnswer : Decoded → ℕ → Answer
-decodedAnswer Undefined code = Passed code
-decodedAnswer (Means command) code = Obeyed code
-
-unfoldable pub commandAnswer : ℕ → Answer
-commandAnswer value = decodedAnswer (codeMeaning value) (value / 2 % 256)
-
+-- Nine command bits, highest first, the last ignored: the upper eight are a code; more commands follow without an ID.
 unfoldable pub commandTaken : Bool → ℕ → ℕ → Framed
 commandTaken bit count value =
     cond (ltb count 8) (collected (Command (count + 1) (more value bit)))
-    (framed (Command 0 0) Released (commandAnswer (more value bit)))
+    (framed (Command 0 0) Released (Code (more value bit / 2 % 256)))
 
 -- A WR rise. In a read frame and in a dead one it is stray.
 unfoldable pub taken : Bool → Phase → Line → Framed
@@ -99,7 +91,7 @@ taken bit Dead line = stray Dead line
 
 -- A bit of the nibble at the frame's address is offered, D0 first: it goes to DATA.
 abbrev pub offeredIn : Phase → ℕ → Bool → Framed
-offeredIn phase at bit = framed phase (Driven bit) (Offered at bit)
+offeredIn phase at bit = framed phase (Driven bit) (Answered (Offered at bit))
 
 -- Reading: D3 is followed by D0 of the next address.
 unfoldable pub readOffered : ℕ → ℕ → ℕ → Framed
@@ -122,28 +114,17 @@ offered nibble (Writing count value at position) line = writeOffered nibble coun
 offered nibble (Command count value) line = stray (Command count value) line
 offered nibble Dead line = stray Dead line
 
--- The address that a frame has reached, whose nibble it can offer; 0 where it has reached none.
-abbrev pub address : Phase → ℕ
-address Idle = 0
-address (Ident count value) = 0
-address (ReadTo count value) = 0
-address (WriteTo count value) = 0
-address (Reading at position) = at
-address (Writing count value at position) = at
-address (Command count value) = 0
-address Dead = 0
-
 -- The end of a frame: the answer tells whether unfinished bits are lost with it.
 unfoldable pub closed : Phase → Framed
-closed phase = framed Idle Released (cond (eqb (unfinished phase) 0) Closed Dropped)
+closed phase = framed Idle Released (Answered (cond (eqb (unfinished phase) 0) Closed Dropped))
 
 -- A sample, by what it is to the frame. With CS high there is no frame and DATA is released; an opening starts from
 -- nothing; a clash or no edge at all leaves the frame and DATA.
 unfoldable pub frame : Edge → ℕ → Phase → Line → Framed
-frame Rests nibble phase line = framed Idle Released Nothing
+frame Rests nibble phase line = framed Idle Released (Answered Nothing)
 frame Closes nibble phase line = closed phase
-frame Opens nibble phase line = framed (Ident 0 0) Released Opened
-frame Clashes nibble phase line = framed phase line Clash
+frame Opens nibble phase line = framed (Ident 0 0) Released (Answered Opened)
+frame Clashes nibble phase line = framed phase line (Answered Clash)
 frame (Takes bit) nibble phase line = taken bit phase line
 frame Offers nibble phase line = offered nibble phase line
-frame Quiet nibble phase line = framed phase line Nothing
+frame Quiet nibble phase line = framed phase line (Answered Nothing)

@@ -1,4 +1,2 @@
-pub mod Answers
 pub mod Frames
-pub mod Samples
 pub mod Valid

@@ -1,32 +1,10 @@
--- 01 "State record and simulator", what is valid: a frame's ranges, and its couplings with CS and DATA. Assumes nothing.
-use mathlib.Core.Path.{_≡_}
-use mathlib.Core.Bool.{Bool, true, false}
-use Prim.Native.Nat.{ℕ, _^_, _≤_, _<_}
-use Rattle.frames.specs.declared.Phase.{Phase}
-use Rattle.frames.specs.declared.Phase.the-variants.{Idle, Ident, ReadTo, WriteTo, Reading, Writing, Command, Dead}
-use Rattle.frames.specs.declared.Line.{Line}
-use Rattle.frames.specs.declared.Line.the-variants.{Released}
-use Rattle.frames.specs.declared.Act.{Act}
-use Rattle.frames.specs.declared.Act.the-variants.{Keep, Store, Obey}
+-- 01 "Inside a frame": what is stored is a nibble. Assumes nothing.
+use Prim.Native.Nat.{_<_}
+use Rattle.answers.specs.declared.Answer.{Answer}
+use Rattle.frames.specs.declared.Upshot.{Upshot}
+use Rattle.frames.specs.declared.Upshot.the-variants.{Answered, Nibble, Code}
 
--- Unfinished bits: at most so many, and a value below 2^count.
-abbrev pub Unfinished : ℕ → ℕ → ℕ → Type 0
-Unfinished most count value = (count ≤ most) × (value < 2 ^ count)
-
--- There is no frame exactly while CS is high; only a frame that reads or writes can drive DATA, and only it has an
--- address and a position.
-abbrev pub FrameValid : Bool → Line → Phase → Type 0
-FrameValid cs line Idle = (cs ≡ true) × (line ≡ Released)
-FrameValid cs line (Ident count value) = (cs ≡ false) × (line ≡ Released) × Unfinished 2 count value
-FrameValid cs line (ReadTo count value) = (cs ≡ false) × (line ≡ Released) × Unfinished 5 count value
-FrameValid cs line (WriteTo count value) = (cs ≡ false) × (line ≡ Released) × Unfinished 5 count value
-FrameValid cs line (Reading at position) = (cs ≡ false) × (at < 32) × (position < 4)
-FrameValid cs line (Writing count value at position) = (cs ≡ false) × Unfinished 3 count value × (at < 32) × (position < 4)
-FrameValid cs line (Command count value) = (cs ≡ false) × (line ≡ Released) × Unfinished 8 count value
-FrameValid cs line Dead = (cs ≡ false) × (line ≡ Released)
-
--- What is stored is a nibble.
-abbrev pub ActValid : Act → Type 0
-ActValid Keep = Unit {0}
-ActValid (Store at nibble) = nibble < 16
-ActValid (Obey code) = Unit {0}
+abbrev pub UpshotValid : Upshot → Type 0
+UpshotValid (Answered answer) = Unit {0}
+UpshotValid (Nibble at nibble) = nibble < 16
+UpshotValid (Code code) = Unit {0}

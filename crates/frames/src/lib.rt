@@ -1,170 +1,26 @@
-// A frame, sample by sample: what the four lines do, what a phase makes of it, and what is answered. It knows the nibble
-// that stands at the frame's address, and no more of the memory. All goes by value. Assumes nothing.
+// A frame, sample by sample: what a phase makes of what the four lines do. It knows the nibble that stands at the frame's
+// address and no more of the memory, and of a command its code and not its meaning. All goes by value. Assumes nothing.
 ghost use mathlib.Core.Path.{_≡_};
 ghost use Rattle.ground.specs.Bits.{bitAt};
-ghost use Rattle.frames.specs.Samples.{levels, rose, clocked, edge};
-ghost use Rattle.frames.specs.Frames.{more, turned, next, address, stray, collected, identified, identTaken, readToTaken, writeToTaken, nibbleTaken, commandAnswer, commandTaken, taken, readOffered, writeOffered, offered, closed, frame};
-ghost use Rattle.frames.specs.Answers.{act, unfinished, lineNumber};
-use commands::Decoded;
-use ground::Refusal;
+ghost use Rattle.frames.specs.Frames.{more, turned, next, stray, collected, identified, identTaken, readToTaken, writeToTaken, nibbleTaken, commandTaken, taken, readOffered, writeOffered, offered, closed, frame};
+use answers::Answer;
+use lines::Edge;
+use phases::Line;
+use phases::Phase;
 
-// The levels of the four lines.
-pub struct Levels {
-    pub cs: bool,
-    pub wr: bool,
-    pub rd: bool,
-    pub bit: bool, // DATA
-}
-
-// What a sample is to the frame, by the levels before and after it.
-pub enum Edge {
-    Rests,
-    Closes,
-    Opens,
-    Clashes,
-    Takes(bool),
-    Offers,
-    Quiet,
-}
-
-// Where a frame stands. What comes in bit by bit has a count of the bits so far and their value, the first bit highest.
-pub enum Phase {
-    Idle,
-    Ident(u8, u16),
-    ReadTo(u8, u16),
-    WriteTo(u8, u16),
-    Reading(u8, u8),
-    Writing(u8, u16, u8, u8),
-    Command(u8, u16),
-    Dead,
-}
-
-// What the chip does to DATA.
-pub enum Line {
-    Released,
-    Driven(bool),
-}
-
-impl Line {
-    // Its number in the state record and among the pins: 0 released, 1 low, 2 high.
-    pub fn number(self) -> u8
-        ensures { λ r. ⌜ r ≡ lineNumber self ⌝ }
-    {
-        match self {
-            Line::Released => 0,
-            Line::Driven(bit) => 1 + (bit as u8),
-        }
-    }
-}
-
-// What a sample is answered.
-pub enum Answer {
-    Nothing,
-    Opened,
-    Closed,
-    Dropped,
-    Taken,
-    Stored(u8, u8),
-    Obeyed(u8),
-    Passed(u8),
-    Offered(u8, bool),
-    Stray,
-    Unknown,
-    Clash,
-    Refused(Refusal),
-}
-
-// What an answer does beyond the frame.
-pub enum Act {
-    Keep,
-    Store(u8, u8),
-    Obey(u8),
+// What a sample comes to in its frame: an answer and no more; a nibble complete, with its address; or a command's code
+// complete, which whoever knows the commands has to answer.
+pub enum Upshot {
+    Answered(Answer),
+    Nibble(u8, u8),
+    Code(u8),
 }
 
 // A frame after a sample.
 pub struct Framed {
     pub phase: Phase,
     pub line: Line,
-    pub answer: Answer,
-}
-
-impl Answer {
-    // What the answer does beyond the frame: to the memory, or to the settings.
-    pub fn act(self) -> Act
-        ensures { λ r. ⌜ r ≡ act self ⌝ }
-    {
-        match self {
-            Answer::Nothing => Act::Keep,
-            Answer::Opened => Act::Keep,
-            Answer::Closed => Act::Keep,
-            Answer::Dropped => Act::Keep,
-            Answer::Taken => Act::Keep,
-            Answer::Stored(address, nibble) => Act::Store(address, nibble),
-            Answer::Obeyed(code) => Act::Obey(code),
-            Answer::Passed(_) => Act::Keep,
-            Answer::Offered(_, _) => Act::Keep,
-            Answer::Stray => Act::Keep,
-            Answer::Unknown => Act::Keep,
-            Answer::Clash => Act::Keep,
-            Answer::Refused(_) => Act::Keep,
-        }
-    }
-}
-
-// The levels that a sample's number stands for. Only its lowest four bits count.
-pub fn levels_of(sample: u8) -> Levels
-    ensures { λ r. ⌜ r ≡ levels sample ⌝ }
-{
-    Levels {
-        cs: sample % 2 == 1,
-        wr: sample / 2 % 2 == 1,
-        rd: sample / 4 % 2 == 1,
-        bit: sample / 8 % 2 == 1,
-    }
-}
-
-// Whether a line was low and is high.
-fn rises(before: bool, after: bool) -> bool
-    ensures { λ r. ⌜ r ≡ rose before after ⌝ }
-{
-    if before {
-        return false;
-    }
-    after
-}
-
-// What the clocks do while CS is low.
-fn clocked_by(rise: bool, fall: bool, bit: bool) -> Edge
-    ensures { λ r. ⌜ r ≡ clocked rise fall bit ⌝ }
-{
-    if rise {
-        if fall {
-            return Edge::Clashes;
-        }
-        return Edge::Takes(bit);
-    }
-    if fall {
-        return Edge::Offers;
-    }
-    Edge::Quiet
-}
-
-// What a sample is to the frame: the first rule that applies.
-pub fn edge_of(before: Levels, after: Levels) -> Edge
-    ensures { λ r. ⌜ r ≡ edge before after ⌝ }
-{
-    if after.cs {
-        if before.cs {
-            return Edge::Rests;
-        }
-        return Edge::Closes;
-    }
-    if before.cs {
-        return Edge::Opens;
-    }
-    let rise = rises(before.wr, after.wr);
-    let fall = rises(after.rd, before.rd);
-    clocked_by(rise, fall, after.bit)
+    pub upshot: Upshot,
 }
 
 // A value with one bit more behind it.
@@ -189,7 +45,7 @@ fn nibble_of(value: u16) -> u8
 fn next_of(address: u8) -> u8
     ensures { λ r. ⌜ r ≡ next address ⌝ }
 {
-    ((address as u16 + 1) % 32) as u8
+    ((address as u16 + 1) % phases::ROUND) as u8
 }
 
 // Bit `position` of a nibble.
@@ -202,40 +58,6 @@ fn bit_of(position: u8, nibble: u8) -> bool
     (nibble >> position) % 2 == 1
 }
 
-impl Phase {
-    // How many bits a closing sample would drop.
-    pub fn unfinished(self) -> u8
-        ensures { λ r. ⌜ r ≡ unfinished self ⌝ }
-    {
-        match self {
-            Phase::Idle => 0,
-            Phase::Ident(count, _) => count,
-            Phase::ReadTo(count, _) => count,
-            Phase::WriteTo(count, _) => count,
-            Phase::Reading(_, _) => 0,
-            Phase::Writing(count, _, _, _) => count,
-            Phase::Command(count, _) => count,
-            Phase::Dead => 0,
-        }
-    }
-
-    // The address that the frame has reached, or 0.
-    pub fn address(self) -> u8
-        ensures { λ r. ⌜ r ≡ address self ⌝ }
-    {
-        match self {
-            Phase::Idle => 0,
-            Phase::Ident(_, _) => 0,
-            Phase::ReadTo(_, _) => 0,
-            Phase::WriteTo(_, _) => 0,
-            Phase::Reading(at, _) => at,
-            Phase::Writing(_, _, at, _) => at,
-            Phase::Command(_, _) => 0,
-            Phase::Dead => 0,
-        }
-    }
-}
-
 // A bit that is taken and leaves the frame in a phase.
 fn collect(phase: Phase) -> Framed
     ensures { λ r. ⌜ r ≡ collected phase ⌝ }
@@ -243,7 +65,7 @@ fn collect(phase: Phase) -> Framed
     Framed {
         phase,
         line: Line::Released, // by the bit that is taken
-        answer: Answer::Taken,
+        upshot: Upshot::Answered(Answer::Taken),
     }
 }
 
@@ -254,7 +76,7 @@ fn stray_in(phase: Phase, line: Line) -> Framed
     Framed {
         phase,
         line, // as it stands
-        answer: Answer::Stray,
+        upshot: Upshot::Answered(Answer::Stray),
     }
 }
 
@@ -269,7 +91,7 @@ fn identify(id: u16) -> Framed
         _ => Framed {
             phase: Phase::Dead,
             line: Line::Released,
-            answer: Answer::Unknown,
+            upshot: Upshot::Answered(Answer::Unknown),
         },
     }
 }
@@ -291,7 +113,7 @@ fn take_read_to(bit: bool, count: u8, value: u16) -> Framed
     if count < 5 {
         return collect(Phase::ReadTo(count + 1, bits));
     }
-    collect(Phase::Reading((bits % 32) as u8, 0))
+    collect(Phase::Reading((bits % phases::ROUND) as u8, 0))
 }
 
 fn take_write_to(bit: bool, count: u8, value: u16) -> Framed
@@ -301,7 +123,7 @@ fn take_write_to(bit: bool, count: u8, value: u16) -> Framed
     if count < 5 {
         return collect(Phase::WriteTo(count + 1, bits));
     }
-    collect(Phase::Writing(0, 0, (bits % 32) as u8, 0))
+    collect(Phase::Writing(0, 0, (bits % phases::ROUND) as u8, 0))
 }
 
 fn take_nibble(bit: bool, count: u8, value: u16, at: u8, position: u8) -> Framed
@@ -314,18 +136,7 @@ fn take_nibble(bit: bool, count: u8, value: u16, at: u8, position: u8) -> Framed
     Framed {
         phase: Phase::Writing(0, 0, next_of(at), 0),
         line: Line::Released,
-        answer: Answer::Stored(at, nibble_of(bits)),
-    }
-}
-
-// The ninth bit of a command.
-fn answer_command(bits: u16) -> Answer
-    ensures { λ r. ⌜ r ≡ commandAnswer bits ⌝ }
-{
-    let code = (bits / 2 % 256) as u8;
-    match commands::meaning(bits) {
-        Decoded::Undefined => Answer::Passed(code),
-        Decoded::Means(_) => Answer::Obeyed(code),
+        upshot: Upshot::Nibble(at, nibble_of(bits)),
     }
 }
 
@@ -339,7 +150,7 @@ fn take_command(bit: bool, count: u8, value: u16) -> Framed
     Framed {
         phase: Phase::Command(0, 0),
         line: Line::Released,
-        answer: answer_command(bits),
+        upshot: Upshot::Code((bits / 2 % 256) as u8),
     }
 }
 
@@ -367,13 +178,13 @@ fn offer_reading(nibble: u8, at: u8, position: u8) -> Framed
         return Framed {
             phase: Phase::Reading(at, position + 1),
             line: Line::Driven(bit),
-            answer: Answer::Offered(at, bit),
+            upshot: Upshot::Answered(Answer::Offered(at, bit)),
         };
     }
     Framed {
         phase: Phase::Reading(next_of(at), 0),
         line: Line::Driven(bit),
-        answer: Answer::Offered(at, bit),
+        upshot: Upshot::Answered(Answer::Offered(at, bit)),
     }
 }
 
@@ -385,7 +196,7 @@ fn offer_writing(nibble: u8, count: u8, value: u16, at: u8, position: u8) -> Fra
     Framed {
         phase: Phase::Writing(count, value, at, following),
         line: Line::Driven(bit),
-        answer: Answer::Offered(at, bit),
+        upshot: Upshot::Answered(Answer::Offered(at, bit)),
     }
 }
 
@@ -415,13 +226,13 @@ fn close(phase: Phase) -> Framed
         return Framed {
             phase: Phase::Idle,
             line: Line::Released,
-            answer: Answer::Closed,
+            upshot: Upshot::Answered(Answer::Closed),
         };
     }
     Framed {
         phase: Phase::Idle,
         line: Line::Released,
-        answer: Answer::Dropped,
+        upshot: Upshot::Answered(Answer::Dropped),
     }
 }
 
@@ -433,25 +244,25 @@ pub fn frame_after(edge: Edge, nibble: u8, phase: Phase, line: Line) -> Framed
         Edge::Rests => Framed {
             phase: Phase::Idle,
             line: Line::Released,
-            answer: Answer::Nothing,
+            upshot: Upshot::Answered(Answer::Nothing),
         },
         Edge::Closes => close(phase),
         Edge::Opens => Framed {
             phase: Phase::Ident(0, 0),
             line: Line::Released,
-            answer: Answer::Opened,
+            upshot: Upshot::Answered(Answer::Opened),
         },
         Edge::Clashes => Framed {
             phase,
             line,
-            answer: Answer::Clash,
+            upshot: Upshot::Answered(Answer::Clash),
         },
         Edge::Takes(bit) => take(bit, phase, line),
         Edge::Offers => offer(nibble, phase, line),
         Edge::Quiet => Framed {
             phase,
             line,
-            answer: Answer::Nothing,
+            upshot: Upshot::Answered(Answer::Nothing),
         },
     }
 }

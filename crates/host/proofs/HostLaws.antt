@@ -20,7 +20,8 @@ use Rattle.chip.specs.declared.PoweredOn.{PoweredOn}
 use Rattle.chip.specs.declared.Start.{Start}
 use Rattle.chip.specs.declared.Start.the-variants as start
 use Rattle.chip.specs.PowerOn.{startPlace, freshChip, emptyChip, notStarted, poweredOn}
-use Rattle.chip.specs.Valid.{Nibbles, Valid}
+use Rattle.port.specs.Valid.{Nibbles}
+use Rattle.chip.specs.Valid.{Valid}
 use Rattle.chip.proofs.ValidLaws.{freshChip-valid}
 use Rattle.state.specs.Record.{recordValid}
 use Rattle.state.specs.Answers.{writtenAs, writtenOver}

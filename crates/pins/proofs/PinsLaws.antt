@@ -11,8 +11,8 @@ use Rattle.ground.proofs.BitsLaws.{bitNumber-bitAt}
 use Rattle.commands.specs.declared.Commons.{Commons}
 use Rattle.commands.specs.declared.Commons.the-variants.{Two, Three, Four}
 use Rattle.commands.specs.Numbers.{commonsNumber}
-use Rattle.rules.specs.declared.Settings.{Settings}
-use Rattle.rules.specs.Ticks.{running}
+use Rattle.settings.specs.declared.Settings.{Settings}
+use Rattle.ticks.specs.Ticks.{running}
 use Rattle.pins.specs.Pins.{shows, shownNibble}
 
 -- the cells shown by whether the chip runs, whether the LCD is on, and the commons

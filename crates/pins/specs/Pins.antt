@@ -3,14 +3,14 @@ use Prim.Native.Nat.{ℕ, _+_, _*_, _%_}
 use mathlib.Core.Bool.{Bool, false, not, _&&_}
 use lib.Dec.{leb, ltb}
 use Rattle.clock.specs.declared.Timer.{Timer}
-use Rattle.rules.specs.declared.IrqSource.{IrqSource}
-use Rattle.rules.specs.declared.IrqSource.the-variants.{Neither, TimeBase, Flag}
-use Rattle.rules.specs.declared.Pitch.{Pitch}
-use Rattle.rules.specs.declared.Pitch.the-variants.{FourK, TwoK}
-use Rattle.rules.specs.declared.Settings.{Settings}
+use Rattle.settings.specs.declared.IrqSource.{IrqSource}
+use Rattle.settings.specs.declared.IrqSource.the-variants.{Neither, TimeBase, Flag}
+use Rattle.settings.specs.declared.Pitch.{Pitch}
+use Rattle.settings.specs.declared.Pitch.the-variants.{FourK, TwoK}
+use Rattle.settings.specs.declared.Settings.{Settings}
 use Rattle.ground.specs.Bits.{bitNumber, bitAt}
 use Rattle.commands.specs.Numbers.{commonsNumber}
-use Rattle.rules.specs.Ticks.{running}
+use Rattle.ticks.specs.Ticks.{running}
 
 -- A source asks for IRQ: the time base while b is 128 or more, the flag while it is set.
 abbrev pub asserted : IrqSource → Timer → Bool

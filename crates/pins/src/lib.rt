@@ -4,9 +4,9 @@ ghost use mathlib.Core.Path.{_≡_};
 ghost use Rattle.pins.specs.Pins.{asserted, wave, sounding, irqLow, bzHigh, partnerHigh, shows, shownNibble};
 use clock::Timer;
 use commands::Commons;
-use rules::IrqSource;
-use rules::Pitch;
-use rules::Settings;
+use settings::IrqSource;
+use settings::Pitch;
+use settings::Settings;
 
 // Whether a source asks for IRQ.
 fn asserted_by(source: IrqSource, timer: Timer) -> bool
@@ -35,7 +35,7 @@ pub fn irq_low(settings: Settings) -> bool
 fn is_sounding(settings: Settings) -> bool
     ensures { λ r. ⌜ r ≡ sounding settings ⌝ }
 {
-    if settings.running() {
+    if ticks::running(settings) {
         return settings.tone.on;
     }
     false
@@ -77,7 +77,7 @@ pub fn partner_high(settings: Settings) -> bool
 pub fn cell_shows(settings: Settings, common: u8, bit: bool) -> bool
     ensures { λ r. ⌜ r ≡ shows settings common bit ⌝ }
 {
-    if !settings.running() {
+    if !ticks::running(settings) {
         return false;
     }
     let lcd = settings.lcd;
@@ -96,7 +96,7 @@ pub fn cell_shows(settings: Settings, common: u8, bit: bool) -> bool
 pub fn shown_mask(settings: Settings) -> u8
     ensures { λ r. ⌜ r ≡ shownNibble settings 15 ⌝ }
 {
-    if !settings.running() {
+    if !ticks::running(settings) {
         return 0;
     }
     let lcd = settings.lcd;

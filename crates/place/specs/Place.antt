@@ -1,7 +1,7 @@
 -- 01 "State record and simulator": what stepping a chip where it stands returns and leaves. Assumes nothing.
 use Prim.Native.Nat.{ℕ, _+_, _*_}
-use Rattle.frames.specs.declared.Answer.{Answer}
-use Rattle.frames.specs.Answers.{answerNumber, firstDetail, secondDetail}
+use Rattle.answers.specs.declared.Answer.{Answer}
+use Rattle.answers.specs.Answers.{answerNumber, firstDetail, secondDetail}
 use Rattle.chip.specs.declared.Chip.{Chip}
 use Rattle.chip.specs.Chip.{stepped}
 use Rattle.place.specs.declared.Numbered.{Numbered}

@@ -2,8 +2,8 @@
 ghost use mathlib.Core.Path.{_≡_};
 ghost use Rattle.chip.specs.Chip.{stepped};
 ghost use Rattle.place.specs.Place.{answerCode, numbered};
+use answers::Answer;
 use chip::Chip;
-use frames::Answer;
 
 // What a sample did: the chip after it, and the answer as one number.
 pub struct Numbered {

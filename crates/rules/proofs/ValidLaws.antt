@@ -1,19 +1,16 @@
--- Power-on gives valid settings, and commands and ticks keep them so. Assumes nothing.
-use Prim.Native.Nat.{ℕ, zero, suc}
+-- Power-on gives valid settings, and commands keep them so. Assumes nothing.
 use native.Mathlib.Omega.{arith}
-use Rattle.ground.proofs.ChoiceLaws.{either}
 use Rattle.clock.specs.declared.Source.{Source}
 use Rattle.clock.specs.declared.Source.the-variants.{Xtal, Rc, Ext}
 use Rattle.clock.specs.declared.Timer.{Timer}
 use Rattle.clock.specs.Valid.{TimerValid, CountersValid}
-use Rattle.clock.proofs.ValidLaws.{countersTicked-valid, timerCleared-valid, watchdogCleared-valid}
+use Rattle.clock.proofs.ValidLaws.{timerCleared-valid, watchdogCleared-valid}
 use Rattle.commands.specs.declared.Command.{Command}
 use Rattle.commands.specs.declared.Command.the-variants.{SysDis, SysEn, LcdOff, LcdOn, TimerDis, WdtDis, TimerEn, WdtEn, ToneOff, ToneOn, ClrTimer, ClrWdt, Xtal32k, Rc256k, Ext256k, BiasCom, Tone4k, Tone2k, IrqDis, IrqEn, Rate, Test, Normal}
 use Rattle.commands.specs.Commands.{Proper}
-use Rattle.rules.specs.declared.Settings.{Settings}
+use Rattle.settings.specs.declared.Settings.{Settings}
 use Rattle.rules.specs.Effects.{systemOff, effect, powerOn}
-use Rattle.rules.specs.Ticks.{running, ticked, advanced}
-use Rattle.rules.specs.Valid.{SettingsValid}
+use Rattle.settings.specs.Valid.{SettingsValid}
 
 pub powerOn-valid : SettingsValid powerOn
 powerOn-valid = (
@@ -59,15 +56,3 @@ effect-valid IrqEn p s v = v
 effect-valid (Rate r) p s v = (omega arith, v .1)
 effect-valid Test p s v = v
 effect-valid Normal p s v = v
-
-pub ticked-valid : (s : Settings) → SettingsValid s → SettingsValid (ticked s)
-unfolding ticked
-ticked-valid s v =
-    either SettingsValid (running s)
-    (v .0, countersTicked-valid (s .system .source) (s .base .on) (s .base .rate) (s .counters) (v .1))
-    v
-
-pub advanced-valid : (n : ℕ) (s : Settings) → SettingsValid s → SettingsValid (advanced n s)
-unfolding advanced
-advanced-valid zero s v = v
-advanced-valid (suc n) s v = advanced-valid n (ticked s) (ticked-valid s v)

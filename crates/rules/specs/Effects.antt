@@ -6,12 +6,12 @@ use Rattle.commands.specs.declared.Bias.the-variants.{Half}
 use Rattle.commands.specs.declared.Commons.the-variants.{Two}
 use Rattle.commands.specs.declared.Command.{Command}
 use Rattle.commands.specs.declared.Command.the-variants.{SysDis, SysEn, LcdOff, LcdOn, TimerDis, WdtDis, TimerEn, WdtEn, ToneOff, ToneOn, ClrTimer, ClrWdt, Xtal32k, Rc256k, Ext256k, BiasCom, Tone4k, Tone2k, IrqDis, IrqEn, Rate, Test, Normal}
-use Rattle.rules.specs.declared.Pitch.the-variants.{FourK, TwoK}
-use Rattle.rules.specs.declared.IrqSource.{IrqSource}
-use Rattle.rules.specs.declared.IrqSource.the-variants.{Neither, TimeBase, Flag}
-use Rattle.rules.specs.declared.Settings.{Settings}
+use Rattle.settings.specs.declared.Pitch.the-variants.{FourK, TwoK}
+use Rattle.settings.specs.declared.IrqSource.{IrqSource}
+use Rattle.settings.specs.declared.IrqSource.the-variants.{Neither, TimeBase, Flag}
+use Rattle.settings.specs.declared.Settings.{Settings}
 use Rattle.clock.specs.Ticks.{timerCleared, watchdogCleared}
-use Rattle.rules.specs.Settings.{systemTo, sourceTo, lcdTo, displayTo, toneTo, pitchTo, irqTo, irqSourceTo, timeBaseTo, rateTo, timerTo, testTo}
+use Rattle.settings.specs.Settings.{systemTo, sourceTo, lcdTo, displayTo, toneTo, pitchTo, irqTo, irqSourceTo, timeBaseTo, rateTo, timerTo, testTo}
 
 -- SYS DIS does nothing at EXT; otherwise the system and the LCD go off.
 abbrev pub systemOff : Source → Settings → Settings

@@ -1,5 +1,1 @@
 pub mod Effects
-pub mod Numbers
-pub mod Settings
-pub mod Ticks
-pub mod Valid

@@ -9,18 +9,22 @@ use Rattle.ground.proofs.ChoiceLaws.{either}
 use Rattle.commands.specs.Commands.{codeMeaning}
 use Rattle.commands.specs.declared.Decoded.{Decoded}
 use Rattle.commands.specs.declared.Decoded.the-variants.{Undefined, Means}
-use Rattle.frames.specs.declared.Answer.{Answer}
-use Rattle.frames.specs.declared.Edge.{Edge}
-use Rattle.frames.specs.declared.Edge.the-variants.{Rests, Closes, Opens, Clashes, Takes, Offers, Quiet}
+use Rattle.answers.specs.declared.Answer.{Answer}
+use Rattle.lines.specs.declared.Edge.{Edge}
+use Rattle.lines.specs.declared.Edge.the-variants.{Rests, Closes, Opens, Clashes, Takes, Offers, Quiet}
 use Rattle.frames.specs.declared.Framed.{Framed}
-use Rattle.frames.specs.declared.Line.{Line}
-use Rattle.frames.specs.declared.Phase.{Phase}
-use Rattle.frames.specs.declared.Phase.the-variants.{Idle, Ident, ReadTo, WriteTo, Reading, Writing, Command, Dead}
-use Rattle.frames.specs.Answers.{answerNumber, unfinished}
-use Rattle.frames.specs.Frames.{more, identified, identTaken, readToTaken, writeToTaken, nibbleTaken, decodedAnswer, commandAnswer, commandTaken, taken, readOffered, offered, closed, frame, address}
-use Rattle.frames.specs.Samples.{levels, edge}
+use Rattle.phases.specs.declared.Line.{Line}
+use Rattle.phases.specs.declared.Phase.{Phase}
+use Rattle.phases.specs.declared.Phase.the-variants.{Idle, Ident, ReadTo, WriteTo, Reading, Writing, Command, Dead}
+use Rattle.answers.specs.Answers.{answerNumber}
+use Rattle.phases.specs.Phases.{unfinished}
+use Rattle.frames.specs.Frames.{more, identified, identTaken, readToTaken, writeToTaken, nibbleTaken, commandAnswer, commandTaken, taken, readOffered, offered, closed, frame}
+use Rattle.chip.specs.Chip.{decodedAnswer}
+use Rattle.phases.specs.Phases.{address}
+use Rattle.lines.specs.Samples.{levels, edge}
 use Rattle.chip.specs.declared.Chip.{Chip}
-use Rattle.chip.specs.Chip.{framedBy, moved, stepped}
+use Rattle.port.specs.Port.{framedBy, moved}
+use Rattle.chip.specs.Chip.{stepped}
 use Rattle.place.specs.Place.{answerCode}
 
 -- the answers of a frame are 0 to 11

@@ -9,9 +9,9 @@ use lib.Dec.{eqb}
 use lib.ListN.{take, replicate}
 use Rattle.clock.specs.declared.Source.{Source}
 use Rattle.clock.specs.declared.Source.the-variants.{Xtal, Rc, Ext}
-use Rattle.rules.specs.declared.Settings.{Settings}
-use Rattle.rules.specs.Numbers.{sourceNumber}
-use Rattle.rules.specs.Ticks.{isExt, running}
+use Rattle.settings.specs.declared.Settings.{Settings}
+use Rattle.clock.specs.Numbers.{sourceNumber}
+use Rattle.ticks.specs.Ticks.{isExt, running}
 use Rattle.state.specs.Record.{frameBytes, settingsBytes, settingsOf, recordValid, recordOf, tailOf, chipOf}
 use Rattle.state.proofs.BytesLaws.{port-bytes}
 use Rattle.state.proofs.ChipLaws.{valid-chip}

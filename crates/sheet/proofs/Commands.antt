@@ -9,18 +9,22 @@ use lib.ListN.{drop, getD}
 use borrow.Author.Tests.{le-ltb, ltb-false}
 use Rattle.ground.specs.Values.{values, agree}
 use Rattle.commands.specs.Commands.{byteMeaning, codeMeaning, commandFault}
-use Rattle.frames.specs.declared.Edge.{Edge}
-use Rattle.frames.specs.declared.Edge.the-variants.{Takes}
-use Rattle.frames.specs.declared.Phase.{Phase}
-use Rattle.frames.specs.declared.Phase.the-variants.{Command}
-use Rattle.frames.specs.declared.Line.the-variants.{Released}
-use Rattle.frames.specs.declared.Answer.{Answer}
+use Rattle.lines.specs.declared.Edge.{Edge}
+use Rattle.lines.specs.declared.Edge.the-variants.{Takes}
+use Rattle.phases.specs.declared.Phase.{Phase}
+use Rattle.phases.specs.declared.Phase.the-variants.{Command}
+use Rattle.phases.specs.declared.Line.the-variants.{Released}
+use Rattle.answers.specs.declared.Answer.{Answer}
 use Rattle.frames.specs.declared.Framed.{Framed}
-use Rattle.frames.specs.Samples.{levels, edge}
-use Rattle.frames.specs.Frames.{framed, frame, taken, commandTaken, decodedAnswer, address}
-use Rattle.frames.specs.Answers.{act, unfinished}
+use Rattle.lines.specs.Samples.{levels, edge}
+use Rattle.frames.specs.Frames.{framed, frame, taken, commandTaken}
+use Rattle.chip.specs.Chip.{decodedAnswer}
+use Rattle.phases.specs.Phases.{address}
+use Rattle.answers.specs.Answers.{act}
+use Rattle.phases.specs.Phases.{unfinished}
 use Rattle.chip.specs.declared.Chip.{Chip}
-use Rattle.chip.specs.Chip.{settingsAfter, framedBy, moved, stepped}
+use Rattle.chip.specs.Chip.{settingsAfter, stepped}
+use Rattle.port.specs.Port.{framedBy, moved}
 use Rattle.chip.proofs.ValidLaws.{stepped-valid}
 use Rattle.place.specs.Place.{answerCode}
 use Rattle.state.specs.FrameCodes.{phaseRead, phaseNumber}

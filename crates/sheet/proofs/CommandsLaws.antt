@@ -15,13 +15,14 @@ use Rattle.commands.specs.declared.Decoded.the-variants.{Undefined, Means}
 use Rattle.commands.specs.Commands.{byteMeaning, codeMeaning, undefined}
 use Rattle.clock.specs.declared.Source.{Source}
 use Rattle.clock.specs.declared.Source.the-variants.{Xtal, Rc, Ext}
-use Rattle.rules.specs.declared.IrqSource.{IrqSource}
-use Rattle.rules.specs.declared.IrqSource.the-variants.{Neither, TimeBase, Flag}
-use Rattle.rules.specs.declared.Settings.{Settings}
+use Rattle.settings.specs.declared.IrqSource.{IrqSource}
+use Rattle.settings.specs.declared.IrqSource.the-variants.{Neither, TimeBase, Flag}
+use Rattle.settings.specs.declared.Settings.{Settings}
 use Rattle.rules.specs.Effects.{effect}
-use Rattle.rules.specs.Settings.{sourceTo, irqSourceTo}
-use Rattle.frames.specs.Frames.{more, commandAnswer, decodedAnswer}
-use Rattle.frames.specs.Answers.{act}
+use Rattle.settings.specs.Settings.{sourceTo, irqSourceTo}
+use Rattle.frames.specs.Frames.{more, commandAnswer}
+use Rattle.chip.specs.Chip.{decodedAnswer}
+use Rattle.answers.specs.Answers.{act}
 use Rattle.chip.specs.Chip.{obeyedAs, settingsAfter}
 use Rattle.place.specs.Place.{answerCode}
 use Rattle.sheet.specs.Commands.{defined, effectOf}

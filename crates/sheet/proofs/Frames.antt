@@ -16,16 +16,18 @@ use Rattle.ground.proofs.BitsLaws.{bitNumber-bitAt}
 use Rattle.commands.specs.declared.Decoded.{Decoded}
 use Rattle.commands.specs.declared.Decoded.the-variants.{Undefined, Means}
 use Rattle.commands.specs.Commands.{codeMeaning}
-use Rattle.frames.specs.declared.Phase.{Phase}
-use Rattle.frames.specs.declared.Phase.the-variants.{Ident, ReadTo, WriteTo, Reading, Writing, Command, Dead}
-use Rattle.frames.specs.declared.Line.the-variants.{Released, Driven}
-use Rattle.frames.specs.declared.Answer.the-variants.{Stored, Obeyed, Passed, Stray}
-use Rattle.frames.specs.declared.Edge.the-variants as edges
-use Rattle.frames.specs.Samples.{levels, edge}
+use Rattle.phases.specs.declared.Phase.{Phase}
+use Rattle.phases.specs.declared.Phase.the-variants.{Ident, ReadTo, WriteTo, Reading, Writing, Command, Dead}
+use Rattle.phases.specs.declared.Line.the-variants.{Released, Driven}
+use Rattle.answers.specs.declared.Answer.the-variants.{Stored, Obeyed, Passed, Stray}
+use Rattle.lines.specs.declared.Edge.the-variants as edges
+use Rattle.lines.specs.Samples.{levels, edge}
 use Rattle.frames.specs.Frames as model
-use Rattle.frames.specs.Frames.{frame, framed, address}
-use Rattle.frames.specs.Answers.{unfinished}
-use Rattle.chip.specs.Chip.{memoryAfter, settingsAfter, framedBy}
+use Rattle.frames.specs.Frames.{frame, framed}
+use Rattle.phases.specs.Phases.{address}
+use Rattle.phases.specs.Phases.{unfinished}
+use Rattle.port.specs.Port.{memoryAfter, framedBy}
+use Rattle.chip.specs.Chip.{settingsAfter}
 use Rattle.place.specs.Place.{answerCode}
 use Rattle.state.specs.FrameCodes.{phaseRead, phaseNumber, valueOf, positionOf}
 use Rattle.state.specs.Record.{recordValid, chipOf}

@@ -7,16 +7,18 @@ use Prim.Native.Nat.{ℕ, zero, suc, _+_, _/_, _%_, _≤_}
 use native.Mathlib.Omega.{arith}
 use lib.Dec.{eqb, ltb}
 use lib.ListN.{getD, replicate}
-use Rattle.frames.specs.declared.Phase.{Phase}
-use Rattle.frames.specs.declared.Phase.the-variants.{Idle, Ident, ReadTo, WriteTo, Reading, Writing, Command, Dead}
-use Rattle.frames.specs.declared.Line.{Line}
-use Rattle.frames.specs.declared.Line.the-variants.{Released}
-use Rattle.frames.specs.declared.Answer.the-variants.{Stray, Unknown}
-use Rattle.frames.specs.declared.Act.the-variants.{Keep}
+use Rattle.phases.specs.declared.Phase.{Phase}
+use Rattle.phases.specs.declared.Phase.the-variants.{Idle, Ident, ReadTo, WriteTo, Reading, Writing, Command, Dead}
+use Rattle.phases.specs.declared.Line.{Line}
+use Rattle.phases.specs.declared.Line.the-variants.{Released}
+use Rattle.answers.specs.declared.Answer.the-variants.{Stray, Unknown}
+use Rattle.answers.specs.Answers.{Keep}
 use Rattle.frames.specs.declared.Framed.{Framed}
 use Rattle.frames.specs.Frames as model
-use Rattle.frames.specs.Frames.{framed, address}
-use Rattle.frames.specs.Answers.{act, unfinished, lineNumber}
+use Rattle.frames.specs.Frames.{framed}
+use Rattle.phases.specs.Phases.{address}
+use Rattle.answers.specs.Answers.{act}
+use Rattle.phases.specs.Phases.{unfinished, lineNumber}
 use Rattle.place.specs.Place.{answerCode}
 use Rattle.state.specs.FrameCodes.{phaseRead, phaseNumber, valueOf, positionOf, phaseIn}
 use Rattle.state.specs.Record.{recordValid, tailOf, chipOf}

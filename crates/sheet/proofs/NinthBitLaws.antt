@@ -8,18 +8,19 @@ use borrow.Author.Tests.{ltb-false}
 use Rattle.ground.specs.Bits.{bitAt}
 use Rattle.ground.specs.Values.{agree}
 use Rattle.ground.proofs.ChoiceLaws.{either, by-cases}
-use Rattle.rules.specs.declared.Settings.{Settings}
-use Rattle.frames.specs.declared.Levels.{Levels}
-use Rattle.frames.specs.declared.Edge.{Edge}
-use Rattle.frames.specs.declared.Edge.the-variants.{Rests, Closes, Opens, Clashes, Takes, Offers, Quiet}
-use Rattle.frames.specs.declared.Phase.{Phase}
-use Rattle.frames.specs.declared.Phase.the-variants.{Idle, Ident, ReadTo, WriteTo, Reading, Writing, Command, Dead}
-use Rattle.frames.specs.declared.Line.{Line}
-use Rattle.frames.specs.declared.Answer.{Answer}
+use Rattle.settings.specs.declared.Settings.{Settings}
+use Rattle.lines.specs.declared.Levels.{Levels}
+use Rattle.lines.specs.declared.Edge.{Edge}
+use Rattle.lines.specs.declared.Edge.the-variants.{Rests, Closes, Opens, Clashes, Takes, Offers, Quiet}
+use Rattle.phases.specs.declared.Phase.{Phase}
+use Rattle.phases.specs.declared.Phase.the-variants.{Idle, Ident, ReadTo, WriteTo, Reading, Writing, Command, Dead}
+use Rattle.phases.specs.declared.Line.{Line}
+use Rattle.answers.specs.declared.Answer.{Answer}
 use Rattle.frames.specs.declared.Framed.{Framed}
-use Rattle.frames.specs.Samples.{edge, rose, clocked}
+use Rattle.lines.specs.Samples.{edge, rose, clocked}
 use Rattle.frames.specs.Frames.{more, identified, identTaken, readToTaken, writeToTaken, nibbleTaken, commandTaken, taken, readOffered, offered, closed, frame}
-use Rattle.frames.specs.Answers.{act, unfinished}
+use Rattle.answers.specs.Answers.{act}
+use Rattle.phases.specs.Phases.{unfinished}
 use Rattle.chip.specs.Chip.{settingsAfter}
 use Rattle.state.specs.FrameCodes.{phaseNumber}
 

@@ -11,7 +11,7 @@ use borrow.Author.Tests.{le-ltb}
 use Rattle.ground.specs.Bits.{bitAt}
 use Rattle.ground.specs.Written.{over}
 use Rattle.ground.proofs.WrittenLaws.{length-over, drop-over}
-use Rattle.rules.specs.Ticks.{running}
+use Rattle.ticks.specs.Ticks.{running}
 use Rattle.pins.specs.Pins.{irqLow, wave, sounding, bzHigh, partnerHigh, shows, shownNibble}
 use Rattle.chip.specs.Pins.{pinsShown}
 use Rattle.state.specs.Selections.{sourceRead, isSource, biasRead, isBias, commonsRead, isCommons, pitchRead, isPitch, irqSourceRead, isIrqSource}

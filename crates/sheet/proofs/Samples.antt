@@ -8,19 +8,20 @@ use native.Mathlib.Omega.{arith}
 use lib.Dec.{eqb}
 use borrow.Author.Tests.{lt-ltb, ne-eqb}
 use Rattle.ground.specs.Bits.{bitAt}
-use Rattle.frames.specs.declared.Act.the-variants.{Keep}
-use Rattle.frames.specs.declared.Line.{Line}
-use Rattle.frames.specs.declared.Line.the-variants.{Released}
-use Rattle.frames.specs.declared.Phase.{Phase}
-use Rattle.frames.specs.declared.Phase.the-variants.{Idle, Ident}
-use Rattle.frames.specs.declared.Answer.{Answer}
-use Rattle.frames.specs.declared.Answer.the-variants.{Nothing, Opened, Closed, Dropped, Clash}
-use Rattle.frames.specs.declared.Edge.{Edge}
-use Rattle.frames.specs.declared.Edge.the-variants as edges
-use Rattle.frames.specs.Samples.{levels, clocked, edge}
+use Rattle.answers.specs.Answers.{Keep}
+use Rattle.phases.specs.declared.Line.{Line}
+use Rattle.phases.specs.declared.Line.the-variants.{Released}
+use Rattle.phases.specs.declared.Phase.{Phase}
+use Rattle.phases.specs.declared.Phase.the-variants.{Idle, Ident}
+use Rattle.answers.specs.declared.Answer.{Answer}
+use Rattle.answers.specs.declared.Answer.the-variants.{Nothing, Opened, Closed, Dropped, Clash}
+use Rattle.lines.specs.declared.Edge.{Edge}
+use Rattle.lines.specs.declared.Edge.the-variants as edges
+use Rattle.lines.specs.Samples.{levels, clocked, edge}
 use Rattle.frames.specs.Frames.{frame, framed, closed}
-use Rattle.frames.specs.Answers.{act, unfinished}
-use Rattle.frames.specs.Valid.{FrameValid}
+use Rattle.answers.specs.Answers.{act}
+use Rattle.phases.specs.Phases.{unfinished}
+use Rattle.phases.specs.Valid.{FrameValid}
 use Rattle.place.specs.Place.{answerCode}
 use Rattle.state.specs.Record.{goesWithCs, recordValid, chipOf}
 use Rattle.state.specs.FrameCodes.{phaseRead}

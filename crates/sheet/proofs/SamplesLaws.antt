@@ -8,19 +8,21 @@ use lib.ListN.{getD, take, replicate, length, drop, set}
 use lib.Seq.{set-at}
 use borrow.Author.Tests.{le-ltb}
 use Rattle.ground.specs.Bits.{bitAt}
-use Rattle.rules.specs.declared.Settings.{Settings}
-use Rattle.frames.specs.declared.Phase.{Phase}
-use Rattle.frames.specs.declared.Line.{Line}
-use Rattle.frames.specs.declared.Act.the-variants.{Keep}
+use Rattle.settings.specs.declared.Settings.{Settings}
+use Rattle.phases.specs.declared.Phase.{Phase}
+use Rattle.phases.specs.declared.Line.{Line}
+use Rattle.answers.specs.Answers.{Keep}
 use Rattle.frames.specs.declared.Framed.{Framed}
-use Rattle.frames.specs.declared.Answer.{Answer}
-use Rattle.frames.specs.declared.Edge.{Edge}
-use Rattle.frames.specs.Samples.{levels, edge, clocked}
-use Rattle.frames.specs.Frames.{frame, framed, address}
-use Rattle.frames.specs.Answers.{act}
+use Rattle.answers.specs.declared.Answer.{Answer}
+use Rattle.lines.specs.declared.Edge.{Edge}
+use Rattle.lines.specs.Samples.{levels, edge, clocked}
+use Rattle.frames.specs.Frames.{frame, framed}
+use Rattle.phases.specs.Phases.{address}
+use Rattle.answers.specs.Answers.{act}
 use Rattle.chip.specs.declared.Chip.{Chip}
 use Rattle.chip.specs.declared.Stepped.{Stepped}
-use Rattle.chip.specs.Chip.{memoryAfter, settingsAfter, framedBy, movedAs, moved, steppedAs, stepped}
+use Rattle.port.specs.Port.{memoryAfter, framedBy, movedAs, moved}
+use Rattle.chip.specs.Chip.{settingsAfter, steppedAs, stepped}
 use Rattle.chip.proofs.ValidLaws.{stepped-valid}
 use Rattle.place.specs.Place.{answerCode}
 use Rattle.state.specs.FrameCodes.{linesNumber}

@@ -4,7 +4,7 @@ use mathlib.Core.Bool.{true}
 use mathlib.Core.List.{List}
 use Prim.Native.Nat.{ℕ, suc}
 use native.Mathlib.Numerals.{add-one}
-use Rattle.rules.specs.Ticks as ticks
+use Rattle.ticks.specs.Ticks as ticks
 use Rattle.chip.specs.declared.Chip.{Chip}
 use Rattle.chip.specs.Chip.{advanced}
 use Rattle.chip.specs.Valid.{Valid}

@@ -10,10 +10,10 @@ use Rattle.clock.specs.declared.Source.the-variants.{Xtal, Rc, Ext}
 use Rattle.clock.specs.declared.Watchdog.{Watchdog}
 use Rattle.clock.specs.declared.Timer.{Timer}
 use Rattle.clock.specs.Ticks.{prescalerStepped, tonerStepped, dividerStepped, baseStepped, watchdogStepped, due, timerStepped, baseTicked, prescaledTick, countersTicked}
-use Rattle.rules.specs.declared.Settings.{Settings}
-use Rattle.rules.specs.Numbers.{sourceNumber}
-use Rattle.rules.specs.Settings.{timerTo, countersTo}
-use Rattle.rules.specs.Ticks.{running, ticked}
+use Rattle.settings.specs.declared.Settings.{Settings}
+use Rattle.clock.specs.Numbers.{sourceNumber}
+use Rattle.settings.specs.Settings.{timerTo, countersTo}
+use Rattle.ticks.specs.Ticks.{running, ticked}
 use Rattle.state.proofs.CodesLaws.{bit-back}
 use Rattle.sheet.specs.Ticks.{wSteps, bSteps, dSteps, baseTick, clockTick, tick}
 use Rattle.sheet.proofs.BytesLaws.{spelt, runs-running}

@@ -11,18 +11,19 @@ use Rattle.ground.specs.Bits.{bitNumber}
 use Rattle.ground.specs.Written.{over}
 use Rattle.clock.specs.declared.Counters.{Counters}
 use Rattle.clock.specs.Ticks.{countersTicked}
-use Rattle.rules.specs.declared.Settings.{Settings}
-use Rattle.rules.specs.Settings.{countersTo}
-use Rattle.rules.specs.Ticks as ticks
+use Rattle.settings.specs.declared.Settings.{Settings}
+use Rattle.settings.specs.Settings.{countersTo}
+use Rattle.ticks.specs.Ticks as ticks
 use Rattle.pins.specs.Pins.{irqLow, bzHigh, partnerHigh, shownNibble}
 use Rattle.pins.proofs.PinsLaws.{shown-under-mask}
-use Rattle.frames.specs.declared.Answer.{Answer}
-use Rattle.frames.specs.declared.Answer.the-variants.{Nothing, Opened, Closed, Dropped, Taken, Stored, Obeyed, Passed, Offered, Stray, Unknown, Clash, Refused}
-use Rattle.frames.specs.Samples.{levels}
-use Rattle.frames.specs.Answers.{act}
+use Rattle.answers.specs.declared.Answer.{Answer}
+use Rattle.answers.specs.declared.Answer.the-variants.{Nothing, Opened, Closed, Dropped, Taken, Stored, Obeyed, Passed, Offered, Stray, Unknown, Clash, Refused}
+use Rattle.lines.specs.Samples.{levels}
+use Rattle.answers.specs.Answers.{act}
 use Rattle.chip.specs.declared.Chip.{Chip}
 use Rattle.chip.specs.declared.Stepped.{Stepped}
-use Rattle.chip.specs.Chip.{settingsAfter, moved, steppedAs, stepped, advanced}
+use Rattle.chip.specs.Chip.{settingsAfter, steppedAs, stepped, advanced}
+use Rattle.port.specs.Port.{moved}
 use Rattle.chip.specs.Pins.{pinsShown}
 use Rattle.chip.specs.Valid.{Valid}
 use Rattle.chip.proofs.ValidLaws.{stepped-valid}

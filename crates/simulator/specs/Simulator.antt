@@ -10,7 +10,7 @@ use Rattle.ground.specs.declared.Refusal.the-variants.{SampleAbove, OutputShort
 use Rattle.ground.specs.Outcomes.{Rung, refusedIf, ladder}
 use Rattle.ground.specs.Refusals.{refusalNumber}
 use Rattle.ground.specs.Written.{over}
-use Rattle.frames.specs.Answers.{lineNumber}
+use Rattle.phases.specs.Phases.{lineNumber}
 use Rattle.chip.specs.declared.Pins.{Pins}
 use Rattle.chip.specs.Chip.{stepped, advanced}
 use Rattle.chip.specs.Pins.{pinsShown}

@@ -12,7 +12,7 @@ ghost use Rattle.pins.specs.Pins.{irqLow, bzHigh, partnerHigh};
 ghost use Rattle.simulator.specs.Simulator.{stepReturns, stepBytes, advanceReturns, advanceBytes};
 ghost use Rattle.simulator.specs.Simulator.{pinsReturns, pinsBytes};
 use ground::Refusal;
-use rules::Settings;
+use settings::Settings;
 use state::SettingsRead;
 use state::Verdict;
 

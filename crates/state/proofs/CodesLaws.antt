@@ -14,19 +14,20 @@ use Rattle.commands.specs.declared.Bias.the-variants.{Half, Third}
 use Rattle.commands.specs.declared.Commons.{Commons}
 use Rattle.commands.specs.declared.Commons.the-variants.{Two, Three, Four}
 use Rattle.commands.specs.Numbers.{biasNumber, commonsNumber}
-use Rattle.rules.specs.declared.Pitch.{Pitch}
-use Rattle.rules.specs.declared.Pitch.the-variants.{FourK, TwoK}
-use Rattle.rules.specs.declared.IrqSource.{IrqSource}
-use Rattle.rules.specs.declared.IrqSource.the-variants.{Neither, TimeBase, Flag}
-use Rattle.rules.specs.Numbers.{sourceNumber, pitchNumber, irqSourceNumber}
-use Rattle.frames.specs.declared.Levels.{Levels}
-use Rattle.frames.specs.declared.Phase.{Phase}
-use Rattle.frames.specs.declared.Phase.the-variants.{Idle, Ident, ReadTo, WriteTo, Reading, Writing, Command, Dead}
-use Rattle.frames.specs.declared.Line.{Line}
-use Rattle.frames.specs.declared.Line.the-variants.{Released, Driven}
-use Rattle.frames.specs.Samples.{levels}
-use Rattle.frames.specs.Frames.{address}
-use Rattle.frames.specs.Answers.{unfinished, lineNumber}
+use Rattle.settings.specs.declared.Pitch.{Pitch}
+use Rattle.settings.specs.declared.Pitch.the-variants.{FourK, TwoK}
+use Rattle.settings.specs.declared.IrqSource.{IrqSource}
+use Rattle.settings.specs.declared.IrqSource.the-variants.{Neither, TimeBase, Flag}
+use Rattle.clock.specs.Numbers.{sourceNumber}
+use Rattle.settings.specs.Numbers.{pitchNumber, irqSourceNumber}
+use Rattle.lines.specs.declared.Levels.{Levels}
+use Rattle.phases.specs.declared.Phase.{Phase}
+use Rattle.phases.specs.declared.Phase.the-variants.{Idle, Ident, ReadTo, WriteTo, Reading, Writing, Command, Dead}
+use Rattle.phases.specs.declared.Line.{Line}
+use Rattle.phases.specs.declared.Line.the-variants.{Released, Driven}
+use Rattle.lines.specs.Samples.{levels}
+use Rattle.phases.specs.Phases.{address}
+use Rattle.phases.specs.Phases.{unfinished, lineNumber}
 use Rattle.state.specs.declared.PhaseRead.{PhaseRead}
 use Rattle.state.specs.declared.PhaseRead.the-variants.{Phased, NoPhase}
 use Rattle.state.specs.declared.LineRead.{LineRead}

@@ -7,9 +7,9 @@ use native.Mathlib.Omega.{arith}
 use lib.Dec.{eqb, leb, ltb}
 use lib.ListN.{getD}
 use borrow.Author.Tests.{leb-true, ltb-true, eqb-true}
-use Rattle.frames.specs.declared.Phase.{Phase}
-use Rattle.frames.specs.Frames.{address}
-use Rattle.frames.specs.Answers.{unfinished}
+use Rattle.phases.specs.declared.Phase.{Phase}
+use Rattle.phases.specs.Phases.{address}
+use Rattle.phases.specs.Phases.{unfinished}
 use Rattle.state.specs.FrameCodes.{phaseRead, phaseIn, phaseNumber, valueOf, positionOf}
 use Rattle.state.specs.Record.{mostBits, goesWithCs, bitsRight, restRight, frameRight}
 use Rattle.state.proofs.RangesLaws.{and-left, and-right, each-of-3}

@@ -9,8 +9,8 @@ use lib.Seq.{take-append-add, drop-append-add}
 use borrow.Author.Tests.{le-ltb}
 use Rattle.ground.specs.Written.{over}
 use Rattle.clock.specs.declared.Counters.{Counters}
-use Rattle.rules.specs.Settings.{countersTo}
-use Rattle.chip.specs.declared.Port.{Port}
+use Rattle.settings.specs.Settings.{countersTo}
+use Rattle.port.specs.declared.Port.{Port}
 use Rattle.chip.specs.declared.Chip.{Chip}
 use Rattle.state.specs.Record.{frameBytes, counterBytes, recordValid, recordOf, tailOf, chipOf}
 use Rattle.state.specs.Answers.{writtenAs, portOver, countersOver}

@@ -8,7 +8,7 @@ use native.Mathlib.Nat.{le-of-suc-le-suc, not-suc-le-zero}
 use lib.Dec.{leb}
 use lib.ListN.{length, take, drop, getD, replicate}
 use borrow.Author.Tests.{leb-true, le-leb}
-use Rattle.chip.specs.Valid.{Nibbles}
+use Rattle.port.specs.Valid.{Nibbles}
 use Rattle.state.specs.Record.{upTo}
 
 -- ---- both of two tests

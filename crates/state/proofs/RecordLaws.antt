@@ -18,11 +18,11 @@ use Rattle.ground.specs.declared.Outcome.the-variants.{Written, Refused}
 use Rattle.ground.specs.Outcomes.{outcomeNumber}
 use Rattle.ground.specs.Written.{over, memoryFrom}
 use Rattle.ground.proofs.WrittenLaws.{over-paste, length-over, over-over}
-use Rattle.rules.specs.declared.Settings.{Settings}
-use Rattle.frames.specs.declared.Phase.{Phase}
-use Rattle.frames.specs.declared.Line.{Line}
-use Rattle.frames.specs.Samples.{levels}
-use Rattle.chip.specs.declared.Port.{Port}
+use Rattle.settings.specs.declared.Settings.{Settings}
+use Rattle.phases.specs.declared.Phase.{Phase}
+use Rattle.phases.specs.declared.Line.{Line}
+use Rattle.lines.specs.Samples.{levels}
+use Rattle.port.specs.declared.Port.{Port}
 use Rattle.state.specs.declared.PhaseRead.the-variants.{Phased, NoPhase}
 use Rattle.state.specs.declared.LineRead.the-variants.{Does, NoLine}
 use Rattle.state.specs.declared.SettingsRead.the-variants.{Set, NoSettings}

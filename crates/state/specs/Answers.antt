@@ -11,7 +11,7 @@ use Rattle.ground.specs.declared.Outcome.{Outcome}
 use Rattle.ground.specs.declared.Outcome.the-variants.{Written, Refused}
 use Rattle.ground.specs.Outcomes.{left, leftFrom, refusedIf, ladder}
 use Rattle.clock.specs.declared.Counters.{Counters}
-use Rattle.chip.specs.declared.Port.{Port}
+use Rattle.port.specs.declared.Port.{Port}
 use Rattle.chip.specs.declared.Chip.{Chip}
 use Rattle.chip.specs.PowerOn.{emptyChip}
 use Rattle.state.specs.declared.SettingsRead.{SettingsRead}

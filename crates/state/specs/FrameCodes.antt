@@ -4,11 +4,11 @@ use Prim.Native.Nat.{ℕ, _+_, _*_}
 use mathlib.Core.Bool.{true, false, cond}
 use lib.Dec.{eqb}
 use Rattle.ground.specs.Bits.{bitNumber}
-use Rattle.frames.specs.declared.Levels.{Levels}
-use Rattle.frames.specs.declared.Phase.{Phase}
-use Rattle.frames.specs.declared.Phase.the-variants.{Idle, Ident, ReadTo, WriteTo, Reading, Writing, Command, Dead}
-use Rattle.frames.specs.declared.Line.{Line}
-use Rattle.frames.specs.declared.Line.the-variants.{Released, Driven}
+use Rattle.lines.specs.declared.Levels.{Levels}
+use Rattle.phases.specs.declared.Phase.{Phase}
+use Rattle.phases.specs.declared.Phase.the-variants.{Idle, Ident, ReadTo, WriteTo, Reading, Writing, Command, Dead}
+use Rattle.phases.specs.declared.Line.{Line}
+use Rattle.phases.specs.declared.Line.the-variants.{Released, Driven}
 use Rattle.state.specs.declared.PhaseRead.{PhaseRead}
 use Rattle.state.specs.declared.PhaseRead.the-variants.{Phased, NoPhase}
 use Rattle.state.specs.declared.LineRead.{LineRead}

@@ -11,14 +11,15 @@ use Rattle.commands.specs.declared.Bias.{Bias}
 use Rattle.commands.specs.declared.Commons.{Commons}
 use Rattle.clock.specs.declared.Counters.{Counters}
 use Rattle.clock.specs.declared.Source.{Source}
-use Rattle.rules.specs.declared.Pitch.{Pitch}
-use Rattle.rules.specs.declared.IrqSource.{IrqSource}
-use Rattle.rules.specs.declared.Settings.{Settings}
-use Rattle.rules.specs.Numbers.{sourceNumber, pitchNumber, irqSourceNumber}
-use Rattle.frames.specs.Samples.{levels}
-use Rattle.frames.specs.Frames.{address}
-use Rattle.frames.specs.Answers.{unfinished, lineNumber}
-use Rattle.chip.specs.declared.Port.{Port}
+use Rattle.settings.specs.declared.Pitch.{Pitch}
+use Rattle.settings.specs.declared.IrqSource.{IrqSource}
+use Rattle.settings.specs.declared.Settings.{Settings}
+use Rattle.clock.specs.Numbers.{sourceNumber}
+use Rattle.settings.specs.Numbers.{pitchNumber, irqSourceNumber}
+use Rattle.lines.specs.Samples.{levels}
+use Rattle.phases.specs.Phases.{address}
+use Rattle.phases.specs.Phases.{unfinished, lineNumber}
+use Rattle.port.specs.declared.Port.{Port}
 use Rattle.chip.specs.declared.Chip.{Chip}
 use Rattle.state.specs.declared.PhaseRead.{PhaseRead}
 use Rattle.state.specs.FrameCodes.{linesNumber, phaseRead, phaseIn, phaseNumber, valueOf, positionOf, lineRead, lineIn}

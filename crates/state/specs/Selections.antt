@@ -9,10 +9,10 @@ use Rattle.commands.specs.declared.Bias.{Bias}
 use Rattle.commands.specs.declared.Bias.the-variants.{Half, Third}
 use Rattle.commands.specs.declared.Commons.{Commons}
 use Rattle.commands.specs.declared.Commons.the-variants.{Two, Three, Four}
-use Rattle.rules.specs.declared.Pitch.{Pitch}
-use Rattle.rules.specs.declared.Pitch.the-variants.{FourK, TwoK}
-use Rattle.rules.specs.declared.IrqSource.{IrqSource}
-use Rattle.rules.specs.declared.IrqSource.the-variants.{Neither, TimeBase, Flag}
+use Rattle.settings.specs.declared.Pitch.{Pitch}
+use Rattle.settings.specs.declared.Pitch.the-variants.{FourK, TwoK}
+use Rattle.settings.specs.declared.IrqSource.{IrqSource}
+use Rattle.settings.specs.declared.IrqSource.the-variants.{Neither, TimeBase, Flag}
 use Rattle.state.specs.declared.SourceRead.{SourceRead}
 use Rattle.state.specs.declared.SourceRead.the-variants.{From, NoSource}
 use Rattle.state.specs.declared.BiasRead.{BiasRead}

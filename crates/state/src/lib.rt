@@ -6,7 +6,8 @@ ghost use Prim.Native.Nat.{_+_, _*_, _/_, _%_, _≤_};
 ghost use lib.ListN.{length, getD, replicate};
 ghost use Rattle.ground.specs.Written.{over};
 ghost use Rattle.commands.specs.Numbers.{biasNumber};
-ghost use Rattle.rules.specs.Numbers.{sourceNumber, pitchNumber, irqSourceNumber};
+ghost use Rattle.clock.specs.Numbers.{sourceNumber};
+ghost use Rattle.settings.specs.Numbers.{pitchNumber, irqSourceNumber};
 ghost use Rattle.state.specs.FrameCodes.{phaseRead, lineRead, phaseNumber, valueOf, positionOf, linesNumber};
 ghost use Rattle.state.specs.Selections.{sourceRead, biasRead, commonsRead, pitchRead, irqSourceRead};
 ghost use Rattle.state.specs.Answers.{settingsRead, settingsIn, malformed, readOf};
@@ -24,19 +25,19 @@ use clock::Toner;
 use clock::Watchdog;
 use commands::Bias;
 use commands::Commons;
-use frames::Levels;
-use frames::Line;
-use frames::Phase;
 use ground::Outcome;
 use ground::Refusal;
-use rules::Base;
-use rules::Irq;
-use rules::IrqSource;
-use rules::Lcd;
-use rules::Pitch;
-use rules::Settings;
-use rules::System;
-use rules::Tone;
+use lines::Levels;
+use phases::Line;
+use phases::Phase;
+use settings::Base;
+use settings::Irq;
+use settings::IrqSource;
+use settings::Lcd;
+use settings::Pitch;
+use settings::Settings;
+use settings::System;
+use settings::Tone;
 
 // What a coded byte reads to.
 pub enum PhaseRead {
@@ -482,7 +483,7 @@ pub fn read(bytes: &[u8]) -> Reading
     if !bytes_fit(bytes) {
         return not_valid();
     }
-    let levels = frames::levels_of(bytes[32]);
+    let levels = lines::levels_of(bytes[32]);
     let PhaseRead::Phased(phase) = phase_in(bytes) else {
         return not_valid();
     };

@@ -3,7 +3,8 @@ use mathlib.Core.Path.{_≡_, refl}
 use mathlib.Core.List.{List, [], _∷_}
 use Prim.Native.Nat.{ℕ}
 use Rattle.frames.specs.Frames.{identified, identTaken, writeToTaken, nibbleTaken, taken, closed, frame}
-use Rattle.chip.specs.Chip.{memoryAfter, settingsAfter, framedBy, moved, stepped}
+use Rattle.port.specs.Port.{memoryAfter, framedBy, moved}
+use Rattle.chip.specs.Chip.{settingsAfter, stepped}
 use Rattle.chip.specs.PowerOn.{emptyChip}
 use Rattle.transcript.specs.Listing.{classOf, digits, decimal, field, line, answerLine, badLine, endLine}
 use Rattle.transcript.specs.Listing.{listFrom, listing}

@@ -16,8 +16,8 @@ use Rattle.ground.specs.Outcomes.{ComesTo}
 use Rattle.ground.specs.Written.{Wrote}
 use Rattle.ground.proofs.ChoiceLaws.{either, by-cases}
 use Rattle.ground.proofs.WrittenLaws.{wrote-none, wrote-then}
-use Rattle.frames.specs.declared.Answer.{Answer}
-use Rattle.frames.specs.Answers.{answerNumber, firstDetail, secondDetail}
+use Rattle.answers.specs.declared.Answer.{Answer}
+use Rattle.answers.specs.Answers.{answerNumber, firstDetail, secondDetail}
 use Rattle.chip.specs.declared.Chip.{Chip}
 use Rattle.chip.specs.Chip.{stepped, ticked}
 use Rattle.chip.specs.PowerOn.{emptyChip}

@@ -7,8 +7,8 @@ use lib.ListN.{length}
 use Rattle.ground.specs.declared.Refusal.the-variants.{OutputShort}
 use Rattle.ground.specs.declared.Outcome.{Outcome}
 use Rattle.ground.specs.Outcomes.{refusedIf, answered}
-use Rattle.frames.specs.declared.Answer.{Answer}
-use Rattle.frames.specs.Answers.{answerNumber, firstDetail, secondDetail}
+use Rattle.answers.specs.declared.Answer.{Answer}
+use Rattle.answers.specs.Answers.{answerNumber, firstDetail, secondDetail}
 use Rattle.chip.specs.declared.Chip.{Chip}
 use Rattle.chip.specs.Chip.{stepped, ticked}
 use Rattle.chip.specs.PowerOn.{emptyChip}

@@ -9,8 +9,8 @@ ghost use Rattle.ground.specs.Written.{Wrote};
 ghost use Rattle.chip.specs.PowerOn.{emptyChip};
 ghost use Rattle.transcript.specs.Listing.{classOf, decimal, field, line, answerLine, badLine, endLine, long};
 ghost use Rattle.transcript.specs.Listing.{listFrom, listing, roomFor, listAnswer};
+use answers::Answer;
 use chip::Chip;
-use frames::Answer;
 use ground::Outcome;
 use ground::Refusal;
 

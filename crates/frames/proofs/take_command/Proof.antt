@@ -18,15 +18,15 @@ returns : tie.Need-returns
 unfolding commandTaken
 returns c = simp (c .collect .ensures, lt-ltb _ _ (c .before .if1 .taken), c .before .before .with-bit .ensures)
 
-answer-command-requires : tie.Need-answer-command-requires
-answer-command-requires c κs = search needs
+cast-t12 : tie.Need-cast-t12
+cast-t12 c = search needs
 
 returns-2 : tie.Need-returns-2
 unfolding commandTaken
 returns-2 c =
-    simp (c .answer-command .ensures, le-ltb _ _ (c .before .if1 .left), c .before .before .with-bit .ensures)
+    simp (le-ltb _ _ (c .if1 .left), c .before .with-bit .ensures)
 
 pub take-command-spec : {M : Type 1} → statement M
 take-command-spec =
     tie.close
-    (tie.spec with-bit-requires add-t6 collect-requires returns answer-command-requires returns-2)
+    (tie.spec with-bit-requires add-t6 collect-requires returns cast-t12 returns-2)

@@ -1,6 +1,6 @@
 -- `chip::Chip::advance` meets its contract. Assumes nothing.
 use mathlib.Core.Path.{ap}
-use Rattle.rules.specs.declared.Settings.{Settings}
+use Rattle.settings.specs.declared.Settings.{Settings}
 use borrow.Author.Needs.{needs}
 use Rattle.chip.proofs.Chip.advance.Statement.{statement}
 use Rattle.chip.proofs.Chip.advance.Tie as tie

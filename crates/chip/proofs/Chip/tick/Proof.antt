@@ -1,6 +1,6 @@
 -- `chip::Chip::tick` meets its contract. Assumes nothing.
 use mathlib.Core.Path.{ap}
-use Rattle.rules.specs.declared.Settings.{Settings}
+use Rattle.settings.specs.declared.Settings.{Settings}
 use borrow.Author.Needs.{needs}
 use Rattle.chip.proofs.Chip.tick.Statement.{statement}
 use Rattle.chip.proofs.Chip.tick.Tie as tie

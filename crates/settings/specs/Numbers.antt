@@ -1,0 +1,17 @@
+-- The numbers that 01's "State record and simulator" gives the cases of each enum. Assumes nothing.
+use Prim.Native.Nat.{ℕ}
+use Rattle.settings.specs.declared.Pitch.{Pitch}
+use Rattle.settings.specs.declared.Pitch.the-variants.{FourK, TwoK}
+use Rattle.settings.specs.declared.IrqSource.{IrqSource}
+use Rattle.settings.specs.declared.IrqSource.the-variants.{Neither, TimeBase, Flag}
+
+-- The tone's frequency in kHz.
+abbrev pub pitchNumber : Pitch → ℕ
+pitchNumber FourK = 4
+pitchNumber TwoK = 2
+
+-- The IRQ source.
+abbrev pub irqSourceNumber : IrqSource → ℕ
+irqSourceNumber Neither = 0
+irqSourceNumber TimeBase = 1
+irqSourceNumber Flag = 2

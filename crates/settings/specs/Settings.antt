@@ -1,0 +1,77 @@
+-- The settings with one of them changed and all others kept. Assumes nothing.
+use Prim.Native.Nat.{ℕ}
+use mathlib.Core.Bool.{Bool}
+use Rattle.clock.specs.declared.Source.{Source}
+use Rattle.clock.specs.declared.Timer.{Timer}
+use Rattle.clock.specs.declared.Counters.{Counters}
+use Rattle.commands.specs.declared.Bias.{Bias}
+use Rattle.commands.specs.declared.Commons.{Commons}
+use Rattle.settings.specs.declared.System.{System}
+use Rattle.settings.specs.declared.Lcd.{Lcd}
+use Rattle.settings.specs.declared.Pitch.{Pitch}
+use Rattle.settings.specs.declared.Tone.{Tone}
+use Rattle.settings.specs.declared.IrqSource.{IrqSource}
+use Rattle.settings.specs.declared.Irq.{Irq}
+use Rattle.settings.specs.declared.Base.{Base}
+use Rattle.settings.specs.declared.Settings.{Settings}
+
+abbrev withSystem : System → Settings → Settings
+withSystem x s = record { system = x; lcd = s .lcd; tone = s .tone; irq = s .irq; base = s .base; counters = s .counters; test = s .test }
+
+abbrev withLcd : Lcd → Settings → Settings
+withLcd x s = record { system = s .system; lcd = x; tone = s .tone; irq = s .irq; base = s .base; counters = s .counters; test = s .test }
+
+abbrev withTone : Tone → Settings → Settings
+withTone x s = record { system = s .system; lcd = s .lcd; tone = x; irq = s .irq; base = s .base; counters = s .counters; test = s .test }
+
+abbrev withIrq : Irq → Settings → Settings
+withIrq x s = record { system = s .system; lcd = s .lcd; tone = s .tone; irq = x; base = s .base; counters = s .counters; test = s .test }
+
+abbrev withBase : Base → Settings → Settings
+withBase x s = record { system = s .system; lcd = s .lcd; tone = s .tone; irq = s .irq; base = x; counters = s .counters; test = s .test }
+
+-- The system switch, and the clock's source.
+abbrev pub systemTo : Bool → Settings → Settings
+systemTo on s = withSystem (record { on = on; source = s .system .source }) s
+
+abbrev pub sourceTo : Source → Settings → Settings
+sourceTo source s = withSystem (record { on = s .system .on; source = source }) s
+
+-- The LCD switch; its bias and its commons.
+abbrev pub lcdTo : Bool → Settings → Settings
+lcdTo on s = withLcd (record { on = on; bias = s .lcd .bias; commons = s .lcd .commons }) s
+
+abbrev pub displayTo : Bias → Commons → Settings → Settings
+displayTo bias commons s = withLcd (record { on = s .lcd .on; bias = bias; commons = commons }) s
+
+-- The tone switch, and its frequency.
+abbrev pub toneTo : Bool → Settings → Settings
+toneTo on s = withTone (record { on = on; pitch = s .tone .pitch }) s
+
+abbrev pub pitchTo : Pitch → Settings → Settings
+pitchTo pitch s = withTone (record { on = s .tone .on; pitch = pitch }) s
+
+-- The IRQ output's switch, and its source.
+abbrev pub irqTo : Bool → Settings → Settings
+irqTo on s = withIrq (record { on = on; source = s .irq .source }) s
+
+abbrev pub irqSourceTo : IrqSource → Settings → Settings
+irqSourceTo source s = withIrq (record { on = s .irq .on; source = source }) s
+
+-- The time base's switch, and its rate.
+abbrev pub timeBaseTo : Bool → Settings → Settings
+timeBaseTo on s = withBase (record { on = on; rate = s .base .rate }) s
+
+abbrev pub rateTo : ℕ → Settings → Settings
+rateTo rate s = withBase (record { on = s .base .on; rate = rate }) s
+
+-- The counters, all of them or only those that run while the time base is on.
+abbrev pub countersTo : Counters → Settings → Settings
+countersTo x s = record { system = s .system; lcd = s .lcd; tone = s .tone; irq = s .irq; base = s .base; counters = x; test = s .test }
+
+abbrev pub timerTo : Timer → Settings → Settings
+timerTo timer s = countersTo (record { prescaler = s .counters .prescaler; toner = s .counters .toner; timer = timer }) s
+
+-- The test mark.
+abbrev pub testTo : Bool → Settings → Settings
+testTo x s = record { system = s .system; lcd = s .lcd; tone = s .tone; irq = s .irq; base = s .base; counters = s .counters; test = x }
