@@ -25,7 +25,7 @@ use Rattle.port.specs.Port.{memoryAfter, framedBy, movedAs, moved}
 use Rattle.chip.specs.Chip.{settingsAfter, steppedAs, stepped}
 use Rattle.chip.proofs.ValidLaws.{stepped-valid}
 use Rattle.place.specs.Place.{answerCode}
-use Rattle.state.specs.FrameCodes.{linesNumber}
+use Rattle.lines.specs.Samples.{levelsNumber}
 use Rattle.state.specs.Record.{recordValid, frameBytes, settingsBytes, tailOf, recordOf, chipOf}
 use Rattle.state.proofs.BytesLaws.{byte-past, port-bytes, settings-bytes}
 use Rattle.state.proofs.TripLaws.{trip}
@@ -74,7 +74,7 @@ module _ (b : List ℕ) (valid : recordValid b ≡ true) where
     unfolding chipOf recordOf tailOf
     levels-written =
         ap (λ (n : ℕ). take 32 b ++ n ∷ drop 1 (tailOf c)) (lines-again s small)
-        ∙ sym (set-at (take 32 b) (linesNumber (levels (byte b 32))) (drop 1 (tailOf c)) s 32 size)
+        ∙ sym (set-at (take 32 b) (levelsNumber (levels (byte b 32))) (drop 1 (tailOf c)) s 32 size)
         ∙ ap (λ (l : List ℕ). set l 32 s) (trip b valid)
 
     step-leaves : stepBytes b s ≡ recordOf (stepped c s .chip)
@@ -121,7 +121,7 @@ module _ (b : List ℕ) (valid : recordValid b ≡ true) where
           ap (take 40) step-leaves
           ∙ port-bytes (stepped c s .chip) (stepped-valid c s (valid-chip b valid) .port .size)
           ∙ ap (λ (r : Stepped). r .chip .port .memory ++ frameBytes (r .chip .port)) stepped-is
-          ∙ ap (λ (m : List ℕ). m ++ linesNumber (levels s) ∷ frameLeft (f .phase) (f .line)) keep
+          ∙ ap (λ (m : List ℕ). m ++ levelsNumber (levels s) ∷ frameLeft (f .phase) (f .line)) keep
           ∙ ap (λ (n : ℕ). take 32 b ++ n ∷ frameLeft (f .phase) (f .line)) (lines-again s small)
 
     -- a frame that stays as it was
@@ -139,7 +139,7 @@ module _ (b : List ℕ) (valid : recordValid b ≡ true) where
     levels-stored =
         ap (λ (l : List ℕ). byte l 32) step-leaves
         ∙ byte-past (stepped c s .chip) (stepped-valid c s (valid-chip b valid) .port .size) 0
-        ∙ ap (λ (r : Stepped). linesNumber (r .chip .port .levels)) (stepped-is (framedBy (c .port) (levels s)) refl)
+        ∙ ap (λ (r : Stepped). levelsNumber (r .chip .port .levels)) (stepped-is (framedBy (c .port) (levels s)) refl)
         ∙ lines-again s small
 
     -- ---- what a sample is to the frame

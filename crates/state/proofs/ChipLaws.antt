@@ -34,10 +34,11 @@ use Rattle.lines.specs.Samples.{levels}
 use Rattle.phases.specs.Phases.{address}
 use Rattle.phases.specs.Phases.{unfinished, lineNumber}
 use Rattle.phases.specs.Valid.{FrameValid}
-use Rattle.phases.proofs.PhasesLaws.{line-small}
+use Rattle.phases.proofs.PhasesLaws.{lineNumber-small}
 use Rattle.chip.specs.declared.Chip.{Chip}
 use Rattle.chip.specs.Valid.{Valid}
-use Rattle.state.specs.FrameCodes.{linesNumber, phaseRead, phaseIn, phaseNumber, valueOf, positionOf, lineRead, lineIn}
+use Rattle.lines.specs.Samples.{levelsNumber}
+use Rattle.state.specs.FrameCodes.{phaseRead, phaseIn, phaseNumber, valueOf, positionOf, lineRead, lineIn}
 use Rattle.state.specs.Record.{goesWithCs, bitsRight, restRight, frameRight, upTo, maxima, byte, valueIn, framesRight, settingsRight, recordValid, recordOf, tailOf, chipOf}
 use Rattle.state.proofs.RangesLaws.{and-both, upTo-nibbles, upTo-memory}
 use Rattle.state.proofs.CodesLaws.{bit-back, levels-back, phase-back, line-back, source-back, bias-back, commons-back, pitch-back, irqSource-back}
@@ -203,7 +204,7 @@ tail-fits c v =
     let small = phase-fits (l .cs) (c .port .line) phase (v .port .frame) in
     let low : valueOf phase % 256 ≤ 255 = omega (arith, mod-lt (valueOf phase) {m = 256} (omega arith)) in
     let high : valueOf phase / 256 ≤ 255 = omega (arith, div-eq-of-lt (small .value)) in
-    let lines : linesNumber l ≤ 15 = omega (arith, bit-small (l .cs), bit-small (l .wr), bit-small (l .rd), bit-small (l .bit)) in
+    let lines : levelsNumber l ≤ 15 = omega (arith, bit-small (l .cs), bit-small (l .wr), bit-small (l .rd), bit-small (l .bit)) in
     simp (
       le-leb _ _ lines,
       le-leb _ _ (phase-small phase),
@@ -212,7 +213,7 @@ tail-fits c v =
       le-leb _ _ high,
       le-leb _ _ (small .at),
       le-leb _ _ (small .position),
-      le-leb _ _ (line-small (c .port .line)),
+      le-leb _ _ (lineNumber-small (c .port .line)),
       le-leb _ _ (bit-small (s .system .on)),
       le-leb _ _ (source-small (s .system .source)),
       le-leb _ _ (bit-small (s .lcd .on)),
@@ -254,7 +255,7 @@ spelt-frame : (m : List ℕ) (c : Chip) → FrameValid (c .port .levels .cs) (c 
 unfolding recordOf tailOf
 spelt-frame m c v =
     simp (mod-add-div (valueOf (c .port .phase)) 256)
-    (frame-right (linesNumber (c .port .levels)) (c .port .levels .cs) (c .port .line) (c .port .phase)
+    (frame-right (levelsNumber (c .port .levels)) (c .port .levels .cs) (c .port .line) (c .port .phase)
     (ap (λ (l : Levels). l .cs) (levels-back (c .port .levels))) v)
 
 spelt-settings : (m : List ℕ) (c : Chip) → settingsRight (recordOf (spelt (gather 32 0 m) c)) ≡ true

@@ -37,7 +37,8 @@ use Rattle.state.specs.declared.BiasRead.the-variants.{Biased}
 use Rattle.state.specs.declared.CommonsRead.the-variants.{Has}
 use Rattle.state.specs.declared.PitchRead.the-variants.{Sounds}
 use Rattle.state.specs.declared.IrqSourceRead.the-variants.{Of}
-use Rattle.state.specs.FrameCodes.{linesNumber, phaseRead, phaseIn, phaseNumber, valueOf, positionOf, lineRead, lineIn}
+use Rattle.lines.specs.Samples.{levelsNumber}
+use Rattle.state.specs.FrameCodes.{phaseRead, phaseIn, phaseNumber, valueOf, positionOf, lineRead, lineIn}
 use Rattle.state.specs.Selections.{sourceRead, sourceIn, biasRead, isBias, biasIn, commonsRead, isCommons, commonsIn, pitchRead, isPitch, pitchIn, irqSourceRead, irqSourceIn}
 
 -- ---- written and read
@@ -46,7 +47,7 @@ pub bit-back : (bit : Bool) → eqb (bitNumber bit) 1 ≡ bit
 bit-back true = refl
 bit-back false = refl
 
-pub levels-back : (l : Levels) → levels (linesNumber l) ≡ l
+pub levels-back : (l : Levels) → levels (levelsNumber l) ≡ l
 levels-back l = by (l .cs) (l .wr) (l .rd) (l .bit)
   where
     by : (cs wr rd bit : Bool) → levels (bitNumber cs + 2 * bitNumber wr + 4 * bitNumber rd + 8 * bitNumber bit)
@@ -119,8 +120,8 @@ irqSource-back Flag = refl
 pub bit-again : (n : ℕ) → n ≤ 1 → bitNumber (eqb n 1) ≡ n
 bit-again n h = agree (λ (k : ℕ). bitNumber (eqb k 1)) (λ (k : ℕ). k) 2 refl n (omega arith)
 
-pub lines-again : (n : ℕ) → n ≤ 15 → linesNumber (levels n) ≡ n
-lines-again n h = agree (λ (k : ℕ). linesNumber (levels k)) (λ (k : ℕ). k) 16 refl n (omega arith)
+pub lines-again : (n : ℕ) → n ≤ 15 → levelsNumber (levels n) ≡ n
+lines-again n h = agree (λ (k : ℕ). levelsNumber (levels k)) (λ (k : ℕ). k) 16 refl n (omega arith)
 
 pub line-again : (n : ℕ) → n ≤ 2 → lineNumber (lineIn (lineRead n)) ≡ n
 unfolding lineRead

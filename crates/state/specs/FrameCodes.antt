@@ -14,10 +14,6 @@ use Rattle.state.specs.declared.PhaseRead.the-variants.{Phased, NoPhase}
 use Rattle.state.specs.declared.LineRead.{LineRead}
 use Rattle.state.specs.declared.LineRead.the-variants.{Does, NoLine}
 
--- Lines, byte 32: CS + 2 WR + 4 RD + 8 DATA.
-abbrev pub linesNumber : Levels → ℕ
-linesNumber levels = bitNumber (levels .cs) + 2 * bitNumber (levels .wr) + 4 * bitNumber (levels .rd) + 8 * bitNumber (levels .bit)
-
 -- The phase, byte 33, with the unfinished bits, the address and the reading position that it carries.
 unfoldable pub phaseRead : ℕ → ℕ → ℕ → ℕ → ℕ → PhaseRead
 phaseRead code count value at position =

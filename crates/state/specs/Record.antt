@@ -22,7 +22,8 @@ use Rattle.phases.specs.Phases.{unfinished, lineNumber}
 use Rattle.port.specs.declared.Port.{Port}
 use Rattle.chip.specs.declared.Chip.{Chip}
 use Rattle.state.specs.declared.PhaseRead.{PhaseRead}
-use Rattle.state.specs.FrameCodes.{linesNumber, phaseRead, phaseIn, phaseNumber, valueOf, positionOf, lineRead, lineIn}
+use Rattle.lines.specs.Samples.{levelsNumber}
+use Rattle.state.specs.FrameCodes.{phaseRead, phaseIn, phaseNumber, valueOf, positionOf, lineRead, lineIn}
 use Rattle.state.specs.Selections.{sourceRead, isSource, sourceIn, biasRead, isBias, biasIn, commonsRead, isCommons, commonsIn, pitchRead, isPitch, pitchIn, irqSourceRead, isIrqSource, irqSourceIn}
 
 -- ---- a chip as bytes
@@ -30,7 +31,7 @@ use Rattle.state.specs.Selections.{sourceRead, isSource, sourceIn, biasR
 -- Bytes 32 to 39.
 abbrev pub frameBytes : Port → List ℕ
 frameBytes port =
-    linesNumber (port .levels) ∷ phaseNumber (port .phase) ∷ unfinished (port .phase)
+    levelsNumber (port .levels) ∷ phaseNumber (port .phase) ∷ unfinished (port .phase)
     ∷ valueOf (port .phase) % 256 ∷ valueOf (port .phase) / 256
     ∷ address (port .phase) ∷ positionOf (port .phase) ∷ lineNumber (port .line) ∷ []
 

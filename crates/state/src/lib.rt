@@ -8,13 +8,13 @@ ghost use Rattle.ground.specs.Written.{over};
 ghost use Rattle.commands.specs.Numbers.{biasNumber};
 ghost use Rattle.clock.specs.Numbers.{sourceNumber};
 ghost use Rattle.settings.specs.Numbers.{pitchNumber, irqSourceNumber};
-ghost use Rattle.state.specs.FrameCodes.{phaseRead, lineRead, phaseNumber, valueOf, positionOf, linesNumber};
+ghost use Rattle.state.specs.FrameCodes.{phaseRead, lineRead, phaseNumber, valueOf, positionOf};
 ghost use Rattle.state.specs.Selections.{sourceRead, biasRead, commonsRead, pitchRead, irqSourceRead};
 ghost use Rattle.state.specs.Answers.{settingsRead, settingsIn, malformed, readOf};
 ghost use Rattle.state.specs.Answers.{writtenAs, writtenOver, portOver, countersOver};
 ghost use Rattle.state.specs.Record.{frameBytes, counterBytes, settingsBytes, settingsOf, upTo, maxima, mostBits, goesWithCs, bitsRight, restRight, frameRight, bytesFit, phaseAt};
 use chip::Chip;
-use chip::Port;
+use port::Port;
 use clock::BaseCounter;
 use clock::Counters;
 use clock::Divider;
@@ -555,13 +555,6 @@ fn position_of(phase: Phase) -> u8
     }
 }
 
-// Byte 32.
-fn lines_number(levels: Levels) -> u8
-    ensures { λ r. ⌜ r ≡ linesNumber levels ⌝ }
-{
-    (levels.cs as u8) + 2 * (levels.wr as u8) + 4 * (levels.rd as u8) + 8 * (levels.bit as u8)
-}
-
 // Byte 41.
 fn source_number(source: Source) -> u8
     ensures { λ r. ⌜ r ≡ sourceNumber source ⌝ }
@@ -625,7 +618,7 @@ fn put_frame(port: Port, out: &mut [u8])
     let phase = port.phase;
     let line = port.line;
     let value = value_of(phase);
-    out[32] = lines_number(levels);
+    out[32] = levels.number();
     out[33] = phase_number(phase);
     out[34] = phase.unfinished();
     out[35] = (value % 256) as u8;

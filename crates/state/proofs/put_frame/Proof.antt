@@ -10,8 +10,8 @@ use Rattle.state.proofs.put_frame.Tie as tie
 value-of-requires : tie.Need-value-of-requires
 value-of-requires c κs = search needs
 
-lines-number-requires : tie.Need-lines-number-requires
-lines-number-requires c κs = search needs
+number-requires : tie.Need-number-requires
+number-requires c κs = search needs
 
 slice-write-out : tie.Need-slice-write-out
 slice-write-out c = search needs
@@ -52,8 +52,8 @@ position-of-requires c κs = search needs
 slice-write-out-7 : tie.Need-slice-write-out-7
 slice-write-out-7 c = simp length-set (omega arith)
 
-number-requires : tie.Need-number-requires
-number-requires c κs = search needs
+number-requires-2 : tie.Need-number-requires-2
+number-requires-2 c κs = search needs
 
 slice-write-out-8 : tie.Need-slice-write-out-8
 slice-write-out-8 c = simp length-set (omega arith)
@@ -71,12 +71,12 @@ returns c =
     let value-of-at = lines-number-at .before in
     let start = value-of-at .before .before .before in
     simp (
-      c .number .ensures,
+      c .number2 .ensures,
       position-of-at .position-of .ensures,
       address-at .address .ensures,
       unfinished-at .unfinished .ensures,
       phase-number-at .phase-number .ensures,
-      lines-number-at .lines-number .ensures,
+      lines-number-at .number .ensures,
       value-of-at .value-of .ensures,
     )
     (sets-eq (frameBytes (start .args .port)) (start .args .out .now) 32 (omega arith))
@@ -86,7 +86,7 @@ put-frame-spec =
     tie.close
     (tie.spec
     value-of-requires
-    lines-number-requires
+    number-requires
     slice-write-out
     phase-number-requires
     slice-write-out-2
@@ -100,7 +100,7 @@ put-frame-spec =
     slice-write-out-6
     position-of-requires
     slice-write-out-7
-    number-requires
+    number-requires-2
     slice-write-out-8
     same-length
     returns)
