@@ -20,11 +20,10 @@ use Rattle.port.specs.Port.{moved}
 use Rattle.chip.specs.Chip.{advanced}
 use Rattle.chip.specs.Valid.{Valid}
 use Rattle.chip.proofs.ValidLaws.{advanced-valid}
-use Rattle.place.specs.Place.{answerCode}
 use Rattle.state.specs.Record.{frameBytes, settingsBytes, settingsOf, recordOf, recordValid, chipOf}
 use Rattle.state.proofs.ChipLaws.{valid-chip}
 use Rattle.state.proofs.TripLaws.{trip}
-use Rattle.simulator.specs.Simulator.{advanceBytes}
+use Rattle.simulator.specs.Simulator.{answerCode, advanceBytes}
 use Rattle.state.proofs.BytesLaws.{memory-bytes, port-bytes, settings-bytes}
 use Rattle.demands.specs.Events.{Event, after, answers, notes}
 use Rattle.demands.specs.Calls.{Call, afterCalls, eventsOf, sent, passed, returns, noted}

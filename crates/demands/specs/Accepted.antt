@@ -12,9 +12,8 @@ use Rattle.ground.specs.Places.{lowest, somewhere}
 use Rattle.commands.specs.Commands.{commandFault}
 use Rattle.chip.specs.Chip.{stepped}
 use Rattle.chip.specs.Pins.{pinsShown}
-use Rattle.place.specs.Place.{answerCode}
 use Rattle.state.specs.Record.{recordValid, chipOf}
-use Rattle.simulator.specs.Simulator.{pinsCode, stepReturns, advanceReturns, pinsReturns}
+use Rattle.simulator.specs.Simulator.{answerCode, pinsCode, stepReturns, advanceReturns, pinsReturns}
 use Rattle.driver.specs.Streams.{writeStream, readStream, commandStream}
 use Rattle.driver.specs.Refusals.{writeAnswer, readAnswer, commandAnswer, decodeAnswer}
 use Rattle.host.specs.Host.{powerOnAnswer, powerOnReturns, writeReturns, readReturns, commandsReturns, decodeReturns}

@@ -25,7 +25,7 @@ use Rattle.lines.specs.Samples.{levels, edge}
 use Rattle.chip.specs.declared.Chip.{Chip}
 use Rattle.port.specs.Port.{framedBy, moved}
 use Rattle.chip.specs.Chip.{stepped}
-use Rattle.place.specs.Place.{answerCode}
+use Rattle.simulator.specs.Simulator.{answerCode}
 
 -- the answers of a frame are 0 to 11
 abbrev Told : Framed → Type 0

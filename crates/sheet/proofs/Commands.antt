@@ -26,13 +26,12 @@ use Rattle.chip.specs.declared.Chip.{Chip}
 use Rattle.chip.specs.Chip.{settingsAfter, stepped}
 use Rattle.port.specs.Port.{framedBy, moved}
 use Rattle.chip.proofs.ValidLaws.{stepped-valid}
-use Rattle.place.specs.Place.{answerCode}
 use Rattle.state.specs.FrameCodes.{phaseRead, phaseNumber}
 use Rattle.state.specs.Record.{mostBits, goesWithCs, valueIn, settingsOf, recordValid, recordOf, chipOf}
 use Rattle.state.proofs.ChipLaws.{valid-chip}
 use Rattle.state.proofs.FramesLaws.{FrameHas, frame-has, FrameSame, frame-same}
 use Rattle.state.proofs.TripLaws.{valid-has, within}
-use Rattle.simulator.specs.Simulator.{stepReturns, stepBytes}
+use Rattle.simulator.specs.Simulator.{answerCode, stepReturns, stepBytes}
 use Rattle.state.proofs.BytesLaws.{settings-bytes}
 use Rattle.sheet.specs.Bytes.{byte}
 use Rattle.sheet.specs.Commands.{defined, effectOf, NinthBit, CommandsSheet}

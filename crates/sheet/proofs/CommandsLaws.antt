@@ -24,7 +24,7 @@ use Rattle.frames.specs.Frames.{more, commandAnswer}
 use Rattle.chip.specs.Chip.{decodedAnswer}
 use Rattle.answers.specs.Answers.{act}
 use Rattle.chip.specs.Chip.{obeyedAs, settingsAfter}
-use Rattle.place.specs.Place.{answerCode}
+use Rattle.simulator.specs.Simulator.{answerCode}
 use Rattle.sheet.specs.Commands.{defined, effectOf}
 use Rattle.sheet.proofs.BytesLaws.{spelt, settled}
 

@@ -28,11 +28,11 @@ use Rattle.phases.specs.Phases.{address}
 use Rattle.phases.specs.Phases.{unfinished}
 use Rattle.port.specs.Port.{memoryAfter, framedBy}
 use Rattle.chip.specs.Chip.{settingsAfter}
-use Rattle.place.specs.Place.{answerCode}
 use Rattle.state.specs.FrameCodes.{phaseRead, phaseNumber, valueOf, positionOf}
 use Rattle.state.specs.Record.{recordValid, chipOf}
 use Rattle.state.proofs.FramesLaws.{frame-has}
 use Rattle.state.proofs.TripLaws.{RecordHas, valid-has, within}
+use Rattle.simulator.specs.Simulator.{answerCode}
 use Rattle.sheet.specs.Bytes.{byte}
 use Rattle.sheet.specs.Frames.{OnlyLevels, Leaves, due, Offers, bits, withBit, beforeLast, identified, nibbleOf, oneMore, Completes, Takes}
 use Rattle.sheet.proofs.FramesLaws.{frameLeft, phase-at, code-said, low-said, high-said, address-said, position-said, read-frame, stray-fall, ident-made}

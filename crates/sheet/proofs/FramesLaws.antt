@@ -19,12 +19,12 @@ use Rattle.frames.specs.Frames.{framed}
 use Rattle.phases.specs.Phases.{address}
 use Rattle.answers.specs.Answers.{act}
 use Rattle.phases.specs.Phases.{unfinished, lineNumber}
-use Rattle.place.specs.Place.{answerCode}
 use Rattle.state.specs.FrameCodes.{phaseRead, phaseNumber, valueOf, positionOf, phaseIn}
 use Rattle.state.specs.Record.{recordValid, tailOf, chipOf}
 use Rattle.state.proofs.BytesLaws.{byte-past}
 use Rattle.state.proofs.TripLaws.{trip}
 use Rattle.state.proofs.ChipLaws.{valid-chip}
+use Rattle.simulator.specs.Simulator.{answerCode}
 use Rattle.sheet.specs.Bytes.{byte}
 use Rattle.sheet.specs.Frames.{bits, identified}
 

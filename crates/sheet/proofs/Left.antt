@@ -12,11 +12,10 @@ use Rattle.chip.specs.declared.Chip.{Chip}
 use Rattle.chip.specs.Chip.{stepped, advanced}
 use Rattle.chip.specs.Valid.{Valid}
 use Rattle.chip.proofs.ValidLaws.{stepped-valid, advanced-valid}
-use Rattle.place.specs.Place.{answerCode}
 use Rattle.state.specs.Record.{recordValid, recordOf, chipOf}
 use Rattle.state.proofs.ChipLaws.{valid-chip, chip-valid}
 use Rattle.state.proofs.TripLaws.{valid-has, within}
-use Rattle.simulator.specs.Simulator.{stepReturns, stepBytes, advanceReturns, advanceBytes, pinsReturns, pinsBytes}
+use Rattle.simulator.specs.Simulator.{answerCode, stepReturns, stepBytes, advanceReturns, advanceBytes, pinsReturns, pinsBytes}
 use Rattle.sheet.specs.Pins.{irqIsLow, sounds, toneIsHigh}
 use Rattle.sheet.specs.Left.{Keeps, StepRefused, PinsRefused, LeftSheet}
 use Rattle.sheet.proofs.AnswerLaws.{answer-low}

@@ -22,13 +22,12 @@ use Rattle.frames.specs.Frames.{frame, framed, closed}
 use Rattle.answers.specs.Answers.{act}
 use Rattle.phases.specs.Phases.{unfinished}
 use Rattle.phases.specs.Valid.{FrameValid}
-use Rattle.place.specs.Place.{answerCode}
 use Rattle.state.specs.Record.{goesWithCs, recordValid, chipOf}
 use Rattle.state.specs.FrameCodes.{phaseRead}
 use Rattle.state.proofs.ChipLaws.{valid-chip}
 use Rattle.state.proofs.FramesLaws.{frame-has}
 use Rattle.state.proofs.TripLaws.{valid-has}
-use Rattle.simulator.specs.Simulator.{stepReturns, stepBytes}
+use Rattle.simulator.specs.Simulator.{answerCode, stepReturns, stepBytes}
 use Rattle.sheet.specs.Bytes.{byte}
 use Rattle.sheet.specs.Frames.{OnlyLevels}
 use Rattle.sheet.specs.Samples.{Clocked, Sampled, SamplesSheet}

@@ -24,14 +24,13 @@ use Rattle.chip.specs.declared.Stepped.{Stepped}
 use Rattle.port.specs.Port.{memoryAfter, framedBy, movedAs, moved}
 use Rattle.chip.specs.Chip.{settingsAfter, steppedAs, stepped}
 use Rattle.chip.proofs.ValidLaws.{stepped-valid}
-use Rattle.place.specs.Place.{answerCode}
 use Rattle.lines.specs.Samples.{levelsNumber}
 use Rattle.state.specs.Record.{recordValid, frameBytes, settingsBytes, tailOf, recordOf, chipOf}
 use Rattle.state.proofs.BytesLaws.{byte-past, port-bytes, settings-bytes}
 use Rattle.state.proofs.TripLaws.{trip}
 use Rattle.state.proofs.ChipLaws.{valid-chip}
 use Rattle.state.proofs.CodesLaws.{lines-again}
-use Rattle.simulator.specs.Simulator.{stepReturns, stepBytes}
+use Rattle.simulator.specs.Simulator.{answerCode, stepReturns, stepBytes}
 use Rattle.sheet.specs.Bytes.{byte}
 use Rattle.sheet.specs.Frames.{OnlyLevels, Leaves, Stores}
 use Rattle.sheet.specs.Samples.{rises, falls}

@@ -1,12 +1,14 @@
 -- What each exported call returns and leaves, by what was read. Assumes nothing.
-use mathlib.Core.Path.{_≡_, _∙_, refl, sym, ap}
+use mathlib.Core.Path.{_≡_, _∙_, refl, sym, ap, subst}
 use mathlib.Core.Bool.{Bool, true, false, cond}
-use mathlib.Core.List.{List, _++_, map, append-nil}
-use Prim.Native.Nat.{ℕ, zero, suc, _+_, _*_, _%_, _≤_, _<_}
+use mathlib.Core.List.{List, [], _∷_, _++_, map, append-nil}
+use Prim.Native.Nat.{ℕ, zero, suc, _+_, _*_, _≤_, _<_}
 use native.Mathlib.Omega.{arith}
 use lib.Bits.{bitAnd}
 use lib.ListN.{length, take, drop-of-length-le}
 use borrow.Author.Tests.{lt-ltb, le-ltb}
+use denote.Enum.Declared.{tagOf}
+use types.Run.{OneOf, miss}
 use Rattle.ground.specs.Bits.{bitNumber}
 use Rattle.ground.specs.Written.{over}
 use Rattle.clock.specs.declared.Counters.{Counters}
@@ -17,18 +19,21 @@ use Rattle.ticks.specs.Ticks as ticks
 use Rattle.pins.specs.Pins.{irqLow, bzHigh, partnerHigh, shownNibble}
 use Rattle.pins.proofs.PinsLaws.{shown-under-mask}
 use Rattle.answers.specs.declared.Answer.{Answer}
-use Rattle.answers.specs.declared.Answer.the-variants.{Nothing, Opened, Closed, Dropped, Taken, Stored, Obeyed, Passed, Offered, Stray, Unknown, Clash, Refused}
+use Rattle.answers.proofs.Answer.{the-type as answerType}
 use Rattle.lines.specs.Samples.{levels}
-use Rattle.answers.specs.Answers.{act}
 use Rattle.chip.specs.declared.Chip.{Chip}
 use Rattle.chip.specs.declared.Stepped.{Stepped}
-use Rattle.chip.specs.Chip.{settingsAfter, steppedAs, stepped, advanced}
+use Rattle.commands.specs.declared.Decoded.{Decoded}
+use Rattle.commands.specs.declared.Decoded.the-variants.{Undefined, Means}
+use Rattle.commands.specs.Commands.{codeMeaning}
+use Rattle.frames.specs.declared.Upshot.{Upshot}
+use Rattle.frames.specs.declared.Upshot.the-variants.{Answered, Nibble, Code}
+use Rattle.port.specs.declared.Port.{Port}
+use Rattle.chip.specs.Chip.{commanded, obeyedAs, steppedAs, steppedTo, stepped, advanced}
 use Rattle.port.specs.Port.{moved}
 use Rattle.chip.specs.Pins.{pinsShown}
 use Rattle.chip.specs.Valid.{Valid}
 use Rattle.chip.proofs.ValidLaws.{stepped-valid}
-use Rattle.place.specs.declared.Numbered.{Numbered}
-use Rattle.place.specs.Place.{answerCode, numbered}
 use Rattle.state.specs.declared.Reading.{Reading}
 use Rattle.state.specs.declared.SettingsRead.{SettingsRead}
 use Rattle.state.specs.declared.SettingsRead.the-variants.{Set, NoSettings}
@@ -40,7 +45,7 @@ use Rattle.state.proofs.CodesLaws.{line-again}
 use Rattle.state.proofs.TripLaws.{valid-has, within}
 use Rattle.state.proofs.ChipLaws.{valid-chip, chip-valid}
 use Rattle.state.proofs.PartLaws.{port-part, counters-part}
-use Rattle.simulator.specs.Simulator.{pinsCode, stepReturns, stepBytes, advanceReturns, advanceBytes, pinsReturns, pinsBytes}
+use Rattle.simulator.specs.Simulator.{answerCode, pinsCode, stepReturns, stepBytes, advanceReturns, advanceBytes, pinsReturns, pinsBytes}
 
 -- ---- what was read tells whether the record is valid
 
@@ -85,30 +90,35 @@ written-over b c long v =
 
 -- ---- only an obeyed command changes the settings, and ticks change only the counters
 
-kept : (answer : Answer) (s : Settings) → (answerCode answer % 256 ≡ 6 → ⊥) → settingsAfter (act answer) s ≡ s
-unfolding settingsAfter answerCode
-kept Nothing s h = refl
-kept Opened s h = refl
-kept Closed s h = refl
-kept Dropped s h = refl
-kept Taken s h = refl
-kept (Stored address nibble) s h = refl
-kept (Obeyed code) s h = absurd (h (omega arith))
-kept (Passed code) s h = refl
-kept (Offered address bit) s h = refl
-kept Stray s h = refl
-kept Unknown s h = refl
-kept Clash s h = refl
-kept (Refused refusal) s h = refl
+-- the tags of all answers but an obeyed command's, as `step` learns them
+abbrev others : List ℕ
+others = 0 ∷ 1 ∷ 2 ∷ 3 ∷ 4 ∷ 5 ∷ 7 ∷ 8 ∷ 9 ∷ 10 ∷ 11 ∷ 12 ∷ []
 
-port-alone : (c : Chip) (sample : ℕ) → sample ≤ 15 → (answerCode (stepped c sample .answer) % 256 ≡ 6 → ⊥)
+abbrev Other : Answer → Type 0
+Other answer = OneOf others (tagOf answerType answer)
+
+decoded-alone : (decoded : Decoded) (port : Port) (s : Settings) (code : ℕ)
+    → Other (commanded port s code decoded .answer) → commanded port s code decoded .chip .settings ≡ s
+unfolding obeyedAs
+decoded-alone Undefined port s code h = refl
+decoded-alone (Means command) port s code h = absurd (miss others 6 tt h)
+
+settings-alone : (upshot : Upshot) (port : Port) (s : Settings) → Other (steppedAs upshot port s .answer)
+    → steppedAs upshot port s .chip .settings ≡ s
+unfolding steppedAs
+settings-alone (Answered answer) port s h = refl
+settings-alone (Nibble at nibble) port s h = refl
+settings-alone (Code code) port s h = decoded-alone (codeMeaning (2 * code)) port s code h
+
+port-alone : (c : Chip) (sample : ℕ) → sample ≤ 15 → Other (stepped c sample .answer)
     → record { port = stepped c sample .chip .port; settings = c .settings } ≡ stepped c sample .chip
-unfolding stepped
-port-alone c sample low none =
-    let e : stepped c sample ≡ steppedAs c (moved (c .port) (levels sample)) = rw (le-ltb 15 sample low) in
+unfolding stepped steppedTo
+port-alone c sample low other =
+    let e : stepped c sample ≡ steppedTo c (levels sample) = rw (le-ltb 15 sample low) in
+    let after = moved (c .port) (levels sample) in
     let same = ap (λ (r : Stepped). r .chip .settings) e
-    ∙ kept (moved (c .port) (levels sample) .answer) (c .settings)
-    (λ y. none (ap (λ (r : Stepped). answerCode (r .answer) % 256) e ∙ y)) in
+    ∙ settings-alone (after .upshot) (after .port) (c .settings)
+    (subst (λ (r : Stepped). Other (r .answer)) e other) in
     ap (λ (s : Settings). record { port = stepped c sample .chip .port; settings = s }) (sym same)
 
 tick-alone : (x : Counters) (s : Settings) → countersTo x s ≡ countersTo x (ticks.ticked s)
@@ -137,35 +147,36 @@ module _ (b : List ℕ) (reading : Reading) (e : reading ≡ readOf b) (sample :
     unfolding stepReturns stepBytes
     step-above h = let v = valid b reading e z in (simp (v, lt-ltb _ _ h), simp (v, lt-ltb _ _ h))
 
-    module _ (done : Numbered) (after : List ℕ) (h : sample ≤ 15) (d : done ≡ numbered (reading .chip) sample) where
-      same : done ≡ numbered (chipOf b) sample
-      same = d ∙ ap (λ (c : Chip). numbered c sample) (says b reading e (valid b reading e z))
+    module _ (done : Stepped) (code : ℕ) (after : List ℕ) (h : sample ≤ 15) (d : done ≡ stepped (reading .chip) sample)
+        (coded : code ≡ answerCode (done .answer)) where
+      same : done ≡ stepped (chipOf b) sample
+      same = d ∙ ap (λ (c : Chip). stepped c sample) (says b reading e (valid b reading e z))
 
       next-valid : Valid (stepped (chipOf b) sample .chip)
       next-valid = stepped-valid (chipOf b) sample (valid-chip b (valid b reading e z))
 
-      returned : done .number ≡ stepReturns b sample
+      returned : code ≡ stepReturns b sample
       unfolding stepReturns
-      returned = ap (λ (s : Numbered). s .number) same ∙ simp (valid b reading e z, le-ltb _ _ h)
+      returned = coded ∙ ap (λ (s : Stepped). answerCode (s .answer)) same ∙ simp (valid b reading e z, le-ltb _ _ h)
 
       left : recordOf (stepped (chipOf b) sample .chip) ≡ stepBytes b sample
       unfolding stepBytes
       left = simp (valid b reading e z, le-ltb _ _ h)
 
-      pub step-obeyed : after ≡ writtenOver (done .chip) b → (done .number ≡ stepReturns b sample) × (after ≡ stepBytes b sample)
+      pub step-obeyed : after ≡ writtenOver (done .chip) b → (code ≡ stepReturns b sample) × (after ≡ stepBytes b sample)
       step-obeyed w = (
         returned,
-        w ∙ ap (λ (s : Numbered). writtenOver (s .chip) b) same
+        w ∙ ap (λ (s : Stepped). writtenOver (s .chip) b) same
             ∙ written-over b (stepped (chipOf b) sample .chip) (valid-has b (valid b reading e z) .long) next-valid ∙ left,
       )
 
-      pub step-kept : (done .number % 256 ≡ 6 → ⊥) → after ≡ portOver (done .chip .port) b
-          → (done .number ≡ stepReturns b sample) × (after ≡ stepBytes b sample)
-      step-kept none w = (
+      pub step-kept : Other (done .answer) → after ≡ portOver (done .chip .port) b
+          → (code ≡ stepReturns b sample) × (after ≡ stepBytes b sample)
+      step-kept other w = (
         returned,
-        w ∙ ap (λ (s : Numbered). portOver (s .chip .port) b) same
+        w ∙ ap (λ (s : Stepped). portOver (s .chip .port) b) same
             ∙ port-part b (valid b reading e z) (stepped (chipOf b) sample .chip .port) (next-valid .port .size)
-            ∙ ap recordOf (port-alone (chipOf b) sample h (λ y. none (ap (λ (s : Numbered). s .number % 256) same ∙ y))) ∙ left,
+            ∙ ap recordOf (port-alone (chipOf b) sample h (subst (λ (s : Stepped). Other (s .answer)) same other)) ∙ left,
       )
 
 -- ---- advance

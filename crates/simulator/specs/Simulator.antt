@@ -10,12 +10,17 @@ use Rattle.ground.specs.declared.Refusal.the-variants.{SampleAbove, OutputShort
 use Rattle.ground.specs.Outcomes.{Rung, refusedIf, ladder}
 use Rattle.ground.specs.Refusals.{refusalNumber}
 use Rattle.ground.specs.Written.{over}
+use Rattle.answers.specs.declared.Answer.{Answer}
 use Rattle.phases.specs.Phases.{lineNumber}
+use Rattle.answers.specs.Answers.{answerNumber, firstDetail, secondDetail}
 use Rattle.chip.specs.declared.Pins.{Pins}
 use Rattle.chip.specs.Chip.{stepped, advanced}
 use Rattle.chip.specs.Pins.{pinsShown}
-use Rattle.place.specs.Place.{answerCode}
 use Rattle.state.specs.Record.{recordValid, recordOf, chipOf}
+
+-- An answer and its two details as one number, a byte each, the answer lowest.
+unfoldable pub answerCode : Answer → ℕ
+answerCode answer = answerNumber answer + 256 * firstDetail answer + 65536 * secondDetail answer
 
 -- IRQ low, BZ high, its partner high, and byte 39.
 unfoldable pub pinsCode : Pins → ℕ

@@ -9,8 +9,9 @@ ghost use Rattle.ground.specs.Bits.{bitNumber};
 ghost use Rattle.ground.specs.Refusals.{refusalNumber};
 ghost use Rattle.ground.specs.Written.{over};
 ghost use Rattle.pins.specs.Pins.{irqLow, bzHigh, partnerHigh};
-ghost use Rattle.simulator.specs.Simulator.{stepReturns, stepBytes, advanceReturns, advanceBytes};
+ghost use Rattle.simulator.specs.Simulator.{answerCode, stepReturns, stepBytes, advanceReturns, advanceBytes};
 ghost use Rattle.simulator.specs.Simulator.{pinsReturns, pinsBytes};
+use answers::Answer;
 use ground::Refusal;
 use settings::Settings;
 use state::SettingsRead;
@@ -21,6 +22,14 @@ fn refused(why: Refusal) -> u32
     ensures { λ r. ⌜ r ≡ refusalNumber why ⌝ }
 {
     why.number() as u32
+}
+
+// An answer and its two details, as a call returns them.
+fn code_of(answer: Answer) -> u32
+    ensures { λ r. ⌜ r ≡ answerCode answer ⌝ }
+{
+    let told = answer.numbers();
+    told.number as u32 + 256 * (told.first as u32) + 65536 * (told.second as u32)
 }
 
 // The pins but for the cells, as one number: IRQ, BZ and its partner by the settings, and byte 39.
@@ -48,7 +57,7 @@ fn show(bytes: &[u8], mask: u8, out: &mut [u8])
 }
 
 // A sample: returns its answer in the lowest byte, the first detail in the next and the second in the third. Only an
-// obeyed command, answer 6, changes the settings; after any other sample the port alone is written back.
+// obeyed command changes the settings; after any other sample the port alone is written back.
 #[no_mangle]
 pub extern "C" fn step(bytes: &mut [u8], sample: u8) -> u32
     ensures { λ r. ⌜ (r ≡ stepReturns (now (bytes .entry)) sample)
@@ -63,15 +72,17 @@ pub extern "C" fn step(bytes: &mut [u8], sample: u8) -> u32
         return refused(Refusal::SampleAbove);
     }
     let chip = reading.chip;
-    let done = place::via_place(chip, sample);
+    let done = inplace::via_place(chip, sample);
+    let answer = done.answer;
+    let code = code_of(answer);
     let next = done.chip;
-    if done.number % 256 == 6 {
+    if let Answer::Obeyed(_) = answer {
         state::write(next, bytes);
-        return done.number;
+        return code;
     }
     let port = next.port;
     state::write_port(port, bytes);
-    done.number
+    code
 }
 
 // So many single ticks: returns 0. They change the counters alone, so these alone are written back.
@@ -83,7 +94,7 @@ pub extern "C" fn advance(bytes: &mut [u8], n: u16) -> u32
     let SettingsRead::Set(settings) = state::settings_in(bytes) else {
         return refused(Refusal::Malformed);
     };
-    let next = settings.advanced(n);
+    let next = ticks::advanced(settings, n);
     let counters = next.counters;
     state::write_counters(counters, bytes);
     0

@@ -14,7 +14,6 @@ ghost use Rattle.state.specs.Answers.{settingsRead, settingsIn, malforme
 ghost use Rattle.state.specs.Answers.{writtenAs, writtenOver, portOver, countersOver};
 ghost use Rattle.state.specs.Record.{frameBytes, counterBytes, settingsBytes, settingsOf, upTo, maxima, mostBits, goesWithCs, bitsRight, restRight, frameRight, bytesFit, phaseAt};
 use chip::Chip;
-use port::Port;
 use clock::BaseCounter;
 use clock::Counters;
 use clock::Divider;
@@ -30,6 +29,7 @@ use ground::Refusal;
 use lines::Levels;
 use phases::Line;
 use phases::Phase;
+use port::Port;
 use settings::Base;
 use settings::Irq;
 use settings::IrqSource;

@@ -46,6 +46,12 @@ returns-2 c =
 via-place-requires : tie.Need-via-place-requires
 via-place-requires c κs = search needs
 
+code-of-requires : tie.Need-code-of-requires
+code-of-requires c κs = search needs
+
+enum-told-3 : tie.Need-enum-told-3
+enum-told-3 c = search needs
+
 write-requires : tie.Need-write-requires
 write-requires c κs = search needs
 
@@ -55,13 +61,15 @@ same-length-3 c = search needs
 returns-3 : tie.Need-returns-3
 returns-3 c =
     let written = c .before .before in
-    let taken = written .before .before .before .before .before in
+    let coded = written .before .before .before .before .before in
+    let taken = coded .before in
     let low = taken .before .before in
     let told = low .before in
     let read = told .before .before in
     let start = read .before .before .before in
-    step-obeyed (start .args .bytes .now) (read .read .result) (read .read .ensures) (start .args .sample) (told .enum-told .given .1) (taken .via-place .result) _
-    (low .if1 .left) (taken .via-place .ensures) (written .write .ensures .1)
+    step-obeyed (start .args .bytes .now) (read .read .result) (read .read .ensures) (start .args .sample) (told .enum-told .given .1)
+    (taken .via-place .result) (coded .code-of .result) _ (low .if1 .left) (taken .via-place .ensures) (coded .code-of .ensures)
+    (written .write .ensures .1)
 
 write-port-requires : tie.Need-write-port-requires
 write-port-requires c κs = search needs
@@ -72,14 +80,16 @@ same-length-4 c = search needs
 returns-4 : tie.Need-returns-4
 returns-4 c =
     let written = c .before .before in
-    let kept = written .before .before .before in
-    let taken = kept .before .before .before in
+    let other = written .before .before .before in
+    let coded = other .before .before in
+    let taken = coded .before in
     let low = taken .before .before in
     let told = low .before in
     let read = told .before .before in
     let start = read .before .before .before in
-    step-kept (start .args .bytes .now) (read .read .result) (read .read .ensures) (start .args .sample) (told .enum-told .given .1) (taken .via-place .result) _
-    (low .if1 .left) (taken .via-place .ensures) (kept .if2 .left) (written .write-port .ensures .1)
+    step-kept (start .args .bytes .now) (read .read .result) (read .read .ensures) (start .args .sample) (told .enum-told .given .1)
+    (taken .via-place .result) (coded .code-of .result) _ (low .if1 .left) (taken .via-place .ensures) (coded .code-of .ensures)
+    (other .match2 .keys2) (written .write-port .ensures .1)
 
 pub step-spec : {M : Type 1} → statement M
 step-spec =
@@ -95,6 +105,8 @@ step-spec =
     same-length-2
     returns-2
     via-place-requires
+    code-of-requires
+    enum-told-3
     write-requires
     same-length-3
     returns-3

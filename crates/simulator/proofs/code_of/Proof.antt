@@ -1,17 +1,11 @@
--- `place::code_of` meets its contract. Assumes nothing.
-use Rattle.place.specs.Place.{answerCode}
+-- `simulator::code_of` meets its contract. Assumes nothing.
+use Rattle.simulator.specs.Simulator.{answerCode}
 use borrow.Author.Needs.{needs}
-use Rattle.place.proofs.code_of.Statement.{statement}
-use Rattle.place.proofs.code_of.Tie as tie
+use Rattle.simulator.proofs.code_of.Statement.{statement}
+use Rattle.simulator.proofs.code_of.Tie as tie
 
-number-of-requires : tie.Need-number-of-requires
-number-of-requires c κs = search needs
-
-first-detail-requires : tie.Need-first-detail-requires
-first-detail-requires c κs = search needs
-
-second-detail-requires : tie.Need-second-detail-requires
-second-detail-requires c κs = search needs
+numbers-requires : tie.Need-numbers-requires
+numbers-requires c κs = search needs
 
 cast-result : tie.Need-cast-result
 cast-result c = search needs
@@ -36,15 +30,13 @@ add-result-2 c = search needs
 
 returns : tie.Need-returns
 unfolding answerCode
-returns c = simp (c .second-detail .ensures, c .before .first-detail .ensures, c .before .before .number-of .ensures)
+returns c = simp (c .before .before .before .numbers .ensures)
 
 pub code-of-spec : {M : Type 1} → statement M
 code-of-spec =
     tie.close
     (tie.spec
-    number-of-requires
-    first-detail-requires
-    second-detail-requires
+    numbers-requires
     cast-result
     cast-result-2
     mul-result
