@@ -22,13 +22,12 @@ use Rattle.lines.specs.Samples.{levels}
 use Rattle.answers.specs.declared.Answer.the-variants.{Refused}
 use Rattle.frames.specs.declared.Upshot.{Upshot}
 use Rattle.frames.specs.declared.Upshot.the-variants.{Answered, Nibble, Code}
-use Rattle.port.specs.declared.Port.{Port}
 use Rattle.port.specs.Port.{moved}
-use Rattle.port.specs.Valid.{Nibbles, PortValid}
+use Rattle.port.specs.Valid.{Nibbles}
 use Rattle.port.proofs.ValidLaws.{moved-valid}
 use Rattle.chip.specs.declared.Chip.{Chip}
 use Rattle.chip.specs.declared.Stepped.{Stepped}
-use Rattle.chip.specs.Chip.{obeyedAs, steppedAs, steppedTo, stepped, ticked, advanced}
+use Rattle.chip.specs.Chip.{obeyedAs, settingsAfter, steppedTo, stepped, ticked, advanced}
 use Rattle.chip.specs.PowerOn.{freshChip}
 use Rattle.chip.specs.Valid.{Valid}
 
@@ -37,19 +36,19 @@ unfolding obeyedAs
 obeyedAs-valid Undefined p s v = v
 obeyedAs-valid (Means command) p s v = rules.effect-valid command p s v
 
-steppedAs-valid : (upshot : Upshot) (port : Port) (s : Settings) → PortValid port → SettingsValid s
-    → Valid (steppedAs upshot port s .chip)
-unfolding steppedAs
-steppedAs-valid (Answered answer) port s p v = record { port = p; settings = v }
-steppedAs-valid (Nibble at nibble) port s p v = record { port = p; settings = v }
-steppedAs-valid (Code code) port s p v =
-    record { port = p; settings = obeyedAs-valid (codeMeaning (2 * code)) (code-proper (2 * code)) s v }
+pub settingsAfter-valid : (upshot : Upshot) (s : Settings) → SettingsValid s → SettingsValid (settingsAfter upshot s)
+unfolding settingsAfter
+settingsAfter-valid (Answered answer) s v = v
+settingsAfter-valid (Nibble at nibble) s v = v
+settingsAfter-valid (Code code) s v = obeyedAs-valid (codeMeaning (2 * code)) (code-proper (2 * code)) s v
 
 pub steppedTo-valid : (chip : Chip) (new : Levels) → Valid chip → Valid (steppedTo chip new .chip)
 unfolding steppedTo
 steppedTo-valid chip new v =
-    steppedAs-valid (moved (chip .port) new .upshot) (moved (chip .port) new .port) (chip .settings)
-    (moved-valid (chip .port) new (v .port)) (v .settings)
+    record {
+      port = moved-valid (chip .port) new (v .port);
+      settings = settingsAfter-valid (moved (chip .port) new .upshot) (chip .settings) (v .settings);
+    }
 
 pub stepped-valid : (chip : Chip) (sample : ℕ) → Valid chip → Valid (stepped chip sample .chip)
 unfolding stepped

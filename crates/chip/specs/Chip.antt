@@ -31,19 +31,32 @@ unfoldable pub obeyedAs : Decoded → Settings → Settings
 obeyedAs Undefined settings = settings
 obeyedAs (Means command) settings = effect command settings
 
-abbrev pub commanded : Port → Settings → ℕ → Decoded → Stepped
-commanded port settings code decoded =
-    record { chip = record { port = port; settings = obeyedAs decoded settings }; answer = decodedAnswer decoded code }
+-- What a sample is answered, by what it came to in its frame.
+abbrev pub told : Upshot → Answer
+told (Answered answer) = answer
+told (Nibble at nibble) = Stored at nibble
+told (Code code) = decodedAnswer (codeMeaning (2 * code)) code
 
--- What a sample is answered, by what it came to in its frame; and only a command changes the settings.
-unfoldable pub steppedAs : Upshot → Port → Settings → Stepped
-steppedAs (Answered answer) port settings = record { chip = record { port = port; settings = settings }; answer = answer }
-steppedAs (Nibble at nibble) port settings = record { chip = record { port = port; settings = settings }; answer = Stored at nibble }
-steppedAs (Code code) port settings = commanded port settings code (codeMeaning (2 * code))
+-- And only a command changes the settings.
+unfoldable pub settingsAfter : Upshot → Settings → Settings
+settingsAfter (Answered answer) settings = settings
+settingsAfter (Nibble at nibble) settings = settings
+settingsAfter (Code code) settings = obeyedAs (codeMeaning (2 * code)) settings
+
+abbrev pub steppedAs : Chip → Moved → Stepped
+steppedAs chip result =
+    record {
+      chip = record { port = result .port; settings = settingsAfter (result .upshot) (chip .settings) };
+      answer = told (result .upshot);
+    }
+
+abbrev pub commanded : Port → Settings → ℕ → Stepped
+commanded port settings code =
+    steppedAs (record { port = port; settings = settings }) (record { port = port; upshot = Code code })
 
 -- A sample by its levels.
 unfoldable pub steppedTo : Chip → Levels → Stepped
-steppedTo chip new = let result = moved (chip .port) new in steppedAs (result .upshot) (result .port) (chip .settings)
+steppedTo chip new = steppedAs chip (moved (chip .port) new)
 
 -- A sample above 15 is refused and changes nothing; any other is taken by its levels.
 unfoldable pub stepped : Chip → ℕ → Stepped

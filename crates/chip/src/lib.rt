@@ -2,9 +2,7 @@
 // is taken and answered; each tick moves the settings' counters. All goes by value. Assumes nothing.
 ghost use mathlib.Core.Path.{_≡_};
 ghost use mathlib.Core.List.{map};
-ghost use Prim.Native.Nat.{_*_};
 ghost use lib.Bits.{bitAnd};
-ghost use Rattle.commands.specs.Commands.{codeMeaning};
 ghost use Rattle.chip.specs.Chip.{commanded, steppedTo, stepped, ticked, advanced};
 ghost use Rattle.chip.specs.Pins.{pinsShown};
 ghost use Rattle.chip.specs.PowerOn.{freshChip, emptyChip, notStarted, poweredOn};
@@ -53,7 +51,7 @@ pub struct Pins {
 
 // A code that is complete: an undefined one is passed over, a command obeyed.
 fn commanded(port: Port, settings: Settings, code: u8) -> Stepped
-    ensures { λ r. ⌜ r ≡ commanded port settings code (codeMeaning (2 * code)) ⌝ }
+    ensures { λ r. ⌜ r ≡ commanded port settings code ⌝ }
 {
     match commands::meaning(2 * (code as u16)) {
         Decoded::Undefined => Stepped {

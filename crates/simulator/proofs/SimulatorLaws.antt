@@ -28,8 +28,7 @@ use Rattle.commands.specs.declared.Decoded.the-variants.{Undefined, Means}
 use Rattle.commands.specs.Commands.{codeMeaning}
 use Rattle.frames.specs.declared.Upshot.{Upshot}
 use Rattle.frames.specs.declared.Upshot.the-variants.{Answered, Nibble, Code}
-use Rattle.port.specs.declared.Port.{Port}
-use Rattle.chip.specs.Chip.{commanded, obeyedAs, steppedAs, steppedTo, stepped, advanced}
+use Rattle.chip.specs.Chip.{decodedAnswer, obeyedAs, told, settingsAfter, steppedTo, stepped, advanced}
 use Rattle.port.specs.Port.{moved}
 use Rattle.chip.specs.Pins.{pinsShown}
 use Rattle.chip.specs.Valid.{Valid}
@@ -97,18 +96,16 @@ others = 0 ∷ 1 ∷ 2 ∷ 3 ∷ 4 ∷ 5 ∷ 7 ∷ 8 ∷ 9 ∷ 10 ∷ 11 ∷ 12 
 abbrev Other : Answer → Type 0
 Other answer = OneOf others (tagOf answerType answer)
 
-decoded-alone : (decoded : Decoded) (port : Port) (s : Settings) (code : ℕ)
-    → Other (commanded port s code decoded .answer) → commanded port s code decoded .chip .settings ≡ s
+decoded-alone : (decoded : Decoded) (code : ℕ) (s : Settings) → Other (decodedAnswer decoded code) → obeyedAs decoded s ≡ s
 unfolding obeyedAs
-decoded-alone Undefined port s code h = refl
-decoded-alone (Means command) port s code h = absurd (miss others 6 tt h)
+decoded-alone Undefined code s h = refl
+decoded-alone (Means command) code s h = absurd (miss others 6 tt h)
 
-settings-alone : (upshot : Upshot) (port : Port) (s : Settings) → Other (steppedAs upshot port s .answer)
-    → steppedAs upshot port s .chip .settings ≡ s
-unfolding steppedAs
-settings-alone (Answered answer) port s h = refl
-settings-alone (Nibble at nibble) port s h = refl
-settings-alone (Code code) port s h = decoded-alone (codeMeaning (2 * code)) port s code h
+settings-alone : (upshot : Upshot) (s : Settings) → Other (told upshot) → settingsAfter upshot s ≡ s
+unfolding settingsAfter
+settings-alone (Answered answer) s h = refl
+settings-alone (Nibble at nibble) s h = refl
+settings-alone (Code code) s h = decoded-alone (codeMeaning (2 * code)) code s h
 
 port-alone : (c : Chip) (sample : ℕ) → sample ≤ 15 → Other (stepped c sample .answer)
     → record { port = stepped c sample .chip .port; settings = c .settings } ≡ stepped c sample .chip
@@ -117,7 +114,7 @@ port-alone c sample low other =
     let e : stepped c sample ≡ steppedTo c (levels sample) = rw (le-ltb 15 sample low) in
     let after = moved (c .port) (levels sample) in
     let same = ap (λ (r : Stepped). r .chip .settings) e
-    ∙ settings-alone (after .upshot) (after .port) (c .settings)
+    ∙ settings-alone (after .upshot) (c .settings)
     (subst (λ (r : Stepped). Other (r .answer)) e other) in
     ap (λ (s : Settings). record { port = stepped c sample .chip .port; settings = s }) (sym same)
 

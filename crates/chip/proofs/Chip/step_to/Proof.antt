@@ -1,5 +1,5 @@
 -- `chip::Chip::step_to` meets its contract. Assumes nothing.
-use Rattle.chip.specs.Chip.{steppedAs, steppedTo}
+use Rattle.chip.specs.Chip.{settingsAfter, steppedTo}
 use borrow.Author.Needs.{needs}
 use Rattle.chip.proofs.Chip.step_to.Statement.{statement}
 use Rattle.chip.proofs.Chip.step_to.Tie as tie
@@ -20,21 +20,21 @@ commanded-requires : tie.Need-commanded-requires
 commanded-requires c κs = search needs
 
 returns : tie.Need-returns
-unfolding steppedTo steppedAs
+unfolding steppedTo settingsAfter
 returns c =
     let moved = c .before .before .before .before .moved .ensures in
     let came = simp moved at (c .before .upshot .given .1) in
     simp (moved, came)
 
 returns-2 : tie.Need-returns-2
-unfolding steppedTo steppedAs
+unfolding steppedTo settingsAfter
 returns-2 c =
     let moved = c .before .before .before .before .moved .ensures in
     let came = simp moved at (c .before .upshot2 .given .1) in
     simp (moved, came)
 
 returns-3 : tie.Need-returns-3
-unfolding steppedTo steppedAs
+unfolding steppedTo settingsAfter
 returns-3 c =
     let moved = c .before .before .before .before .before .moved .ensures in
     let came = simp moved at (c .before .before .upshot3 .given .1) in
