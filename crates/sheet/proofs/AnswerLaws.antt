@@ -1,7 +1,7 @@
 -- No answer to a sample has the number of a refusal. Assumes nothing.
 use mathlib.Core.Path.{_≡_}
 use mathlib.Core.Bool.{Bool, false}
-use Prim.Native.Nat.{ℕ, _/_, _%_, _≤_}
+use Prim.Native.Nat.{ℕ, _*_, _/_, _%_, _≤_}
 use native.Mathlib.Omega.{arith}
 use lib.Dec.{eqb, ltb}
 use lib.ListN.{getD}
@@ -18,21 +18,20 @@ use Rattle.phases.specs.declared.Phase.{Phase}
 use Rattle.phases.specs.declared.Phase.the-variants.{Idle, Ident, ReadTo, WriteTo, Reading, Writing, Command, Dead}
 use Rattle.answers.specs.Answers.{answerNumber}
 use Rattle.phases.specs.Phases.{unfinished}
-use Rattle.frames.specs.Frames.{more, identified, identTaken, readToTaken, writeToTaken, nibbleTaken, commandAnswer, commandTaken, taken, readOffered, offered, closed, frame}
-use Rattle.chip.specs.Chip.{decodedAnswer}
+use Rattle.frames.specs.Frames.{more, identified, identTaken, readToTaken, writeToTaken, nibbleTaken, commandTaken, taken, readOffered, offered, closed, frame}
 use Rattle.phases.specs.Phases.{address}
 use Rattle.lines.specs.Samples.{levels, edge}
 use Rattle.chip.specs.declared.Chip.{Chip}
 use Rattle.port.specs.Port.{framedBy, moved}
-use Rattle.chip.specs.Chip.{stepped}
+use Rattle.chip.specs.Chip.{decodedAnswer, told, steppedTo, stepped}
 use Rattle.simulator.specs.Simulator.{answerCode}
 
 -- the answers of a frame are 0 to 11
 abbrev Told : Framed → Type 0
-Told framed = answerNumber (framed .answer) ≤ 11
+Told framed = answerNumber (told (framed .upshot)) ≤ 11
 
 taken-told : (bit : Bool) (phase : Phase) (line : Line) → Told (taken bit phase line)
-unfolding taken identTaken identified readToTaken writeToTaken nibbleTaken commandTaken commandAnswer
+unfolding taken identTaken identified readToTaken writeToTaken nibbleTaken commandTaken
 taken-told bit Idle line = omega arith
 taken-told bit (Ident count value) line =
     either Told (ltb count 2) (omega arith)
@@ -42,7 +41,7 @@ taken-told bit (ReadTo count value) line = either Told (ltb count 5) (omega arit
 taken-told bit (WriteTo count value) line = either Told (ltb count 5) (omega arith) (omega arith)
 taken-told bit (Reading at position) line = omega arith
 taken-told bit (Writing count value at position) line = either Told (ltb count 3) (omega arith) (omega arith)
-taken-told bit (Command count value) line = either Told (ltb count 8) (omega arith) (meant (codeMeaning (more value bit)))
+taken-told bit (Command count value) line = either Told (ltb count 8) (omega arith) (meant (codeMeaning (2 * (more value bit / 2 % 256))))
   where
     meant : (meaning : Decoded) → answerNumber (decodedAnswer meaning (more value bit / 2 % 256)) ≤ 11
     meant Undefined = omega arith
@@ -71,7 +70,7 @@ frame-told Offers nibble phase line = offered-told nibble phase line
 frame-told Quiet nibble phase line = omega arith
 
 stepped-told : (c : Chip) (sample : ℕ) → ltb 15 sample ≡ false → answerNumber (stepped c sample .answer) ≤ 11
-unfolding stepped moved framedBy
+unfolding stepped steppedTo moved framedBy
 stepped-told c sample low =
     rw low (frame-told (edge (c .port .levels) (levels sample)) (getD (c .port .memory) (address (c .port .phase)) 0) (c .port .phase) (c .port .line))
 

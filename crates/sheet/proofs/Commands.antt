@@ -14,16 +14,17 @@ use Rattle.lines.specs.declared.Edge.the-variants.{Takes}
 use Rattle.phases.specs.declared.Phase.{Phase}
 use Rattle.phases.specs.declared.Phase.the-variants.{Command}
 use Rattle.phases.specs.declared.Line.the-variants.{Released}
-use Rattle.answers.specs.declared.Answer.{Answer}
+use Rattle.frames.specs.declared.Upshot.{Upshot}
+use Rattle.frames.specs.declared.Upshot.the-variants.{Code}
+use Rattle.commands.specs.declared.Decoded.{Decoded}
 use Rattle.frames.specs.declared.Framed.{Framed}
 use Rattle.lines.specs.Samples.{levels, edge}
 use Rattle.frames.specs.Frames.{framed, frame, taken, commandTaken}
-use Rattle.chip.specs.Chip.{decodedAnswer}
 use Rattle.phases.specs.Phases.{address}
-use Rattle.answers.specs.Answers.{act}
 use Rattle.phases.specs.Phases.{unfinished}
 use Rattle.chip.specs.declared.Chip.{Chip}
-use Rattle.chip.specs.Chip.{settingsAfter, stepped}
+use Rattle.chip.specs.Chip as model
+use Rattle.chip.specs.Chip.{decodedAnswer, obeyedAs, settingsAfter, steppedTo, stepped}
 use Rattle.port.specs.Port.{framedBy, moved}
 use Rattle.chip.proofs.ValidLaws.{stepped-valid}
 use Rattle.state.specs.FrameCodes.{phaseRead, phaseNumber}
@@ -36,7 +37,7 @@ use Rattle.state.proofs.BytesLaws.{settings-bytes}
 use Rattle.sheet.specs.Bytes.{byte}
 use Rattle.sheet.specs.Commands.{defined, effectOf, NinthBit, CommandsSheet}
 use Rattle.sheet.proofs.BytesLaws.{settled, bytes-spelt}
-use Rattle.sheet.proofs.CommandsLaws.{effect-same, defined-same, code-answer, code-obeyed, code-told}
+use Rattle.sheet.proofs.CommandsLaws.{effect-same, defined-same, code-taken, code-meaning, code-told}
 use Rattle.sheet.proofs.NinthBitLaws.{first-bit, edge-takes, takes-only, frame-keeps}
 
 cs-low : (high : Bool) → cond high false true ≡ true → high ≡ false
@@ -56,18 +57,18 @@ module _ (b : List ℕ) (sample : ℕ) (valid : recordValid b ≡ true) where
   settled-said = ap (drop 40) (bytes-spelt b valid)
 
   module _ (low : sample ≤ 15) where
-    abbrev answer : Answer
-    answer = framedBy (c .port) (levels sample) .answer
+    abbrev upshot : Upshot
+    upshot = framedBy (c .port) (levels sample) .upshot
 
-    returns-answer : stepReturns b sample ≡ answerCode answer
-    unfolding stepReturns stepped moved
+    returns-answer : stepReturns b sample ≡ answerCode (model.told upshot)
+    unfolding stepReturns stepped steppedTo moved
     returns-answer = simp (valid, le-ltb 15 sample low)
 
-    leaves-settings : drop 40 (stepBytes b sample) ≡ settled (settingsAfter (act answer) (settingsOf b))
-    unfolding stepBytes stepped moved chipOf
+    leaves-settings : drop 40 (stepBytes b sample) ≡ settled (settingsAfter upshot (settingsOf b))
+    unfolding stepBytes stepped steppedTo moved chipOf
     leaves-settings =
         let bytes : stepBytes b sample ≡ recordOf (stepped c sample .chip) = simp (valid, le-ltb 15 sample low) in
-        let settings : stepped c sample .chip .settings ≡ settingsAfter (act answer) (settingsOf b) = simp (le-ltb 15 sample low) in
+        let settings : stepped c sample .chip .settings ≡ settingsAfter upshot (settingsOf b) = simp (le-ltb 15 sample low) in
         ap (drop 40) bytes
         ∙ settings-bytes (stepped c sample .chip) (stepped-valid c sample (valid-chip b valid) .port .size)
         ∙ ap settled settings
@@ -96,23 +97,25 @@ module _ (b : List ℕ) (sample : ℕ) (valid : recordValid b ≡ true) where
     unfolding chipOf phaseRead
     commanding = simp (ninth .phase, ninth .count, value-code)
 
-    frames : framedBy (c .port) (levels sample) ≡ framed (Command 0 0) Released (decodedAnswer (byteMeaning (byte b 35)) (byte b 35))
+    frames : framedBy (c .port) (levels sample) ≡ framed (Command 0 0) Released (Code (byte b 35))
     unfolding framedBy frame taken commandTaken chipOf
     frames =
         ap₂ (λ (e : Edge) (phase : Phase). frame e (getD (c .port .memory) (address (c .port .phase)) 0) phase (c .port .line)) takes commanding
-        ∙ ap (framed (Command 0 0) Released) (code-answer (byte b 35) code-small (levels sample .bit))
+        ∙ ap (λ (code : ℕ). framed (Command 0 0) Released (Code code)) (code-taken (byte b 35) code-small (levels sample .bit))
 
     told : stepReturns b sample ≡ cond (defined (byte b 35)) 6 7 + 256 * byte b 35
     told =
-        returns-answer (ninth .inRange) ∙ ap (λ (f : Framed). answerCode (f .answer)) frames
+        returns-answer (ninth .inRange) ∙ ap (λ (f : Framed). answerCode (model.told (f .upshot))) frames
+        ∙ ap (λ (d : Decoded). answerCode (decodedAnswer d (byte b 35))) (code-meaning (byte b 35) code-small)
         ∙ code-told (byteMeaning (byte b 35)) (byte b 35)
         ∙ ap (λ (t : Bool). cond t 6 7 + 256 * byte b 35) (sym (defined-same (byte b 35) code-small))
 
     obeyed : drop 40 (stepBytes b sample) ≡ drop 40 (effectOf (byte b 35) b)
+    unfolding settingsAfter
     obeyed =
         leaves-settings (ninth .inRange)
-        ∙ ap (λ (f : Framed). settled (settingsAfter (act (f .answer)) (settingsOf b))) frames
-        ∙ ap settled (code-obeyed (byte b 35) code-small (byteMeaning (byte b 35)) (settingsOf b) refl)
+        ∙ ap (λ (f : Framed). settled (settingsAfter (f .upshot) (settingsOf b))) frames
+        ∙ ap (λ (d : Decoded). settled (obeyedAs d (settingsOf b))) (code-meaning (byte b 35) code-small)
         ∙ sym (effect-same b (settingsOf b) (byte b 35) code-small)
         ∙ ap (λ (l : List ℕ). drop 40 (effectOf (byte b 35) l)) (sym (bytes-spelt b valid))
 

@@ -81,21 +81,14 @@ bit-small false = omega arith
 
 module _ (code : ℕ) (small : code < 256) where
   -- the ninth bit is ignored
-  pub code-answer : (bit : Bool) → commandAnswer (more code bit) ≡ decodedAnswer (byteMeaning code) code
-  unfolding commandAnswer codeMeaning
-  code-answer bit =
-      let half : more code bit / 2 ≡ code = omega (arith, bit-small bit) in
-      let within : more code bit ≤ 511 = omega (arith, bit-small bit) in
-      let same : code % 256 ≡ code = omega arith in
-      simp (half, le-ltb 511 (more code bit) within, same)
+  pub code-taken : (bit : Bool) → more code bit / 2 % 256 ≡ code
+  code-taken bit = omega (arith, bit-small bit)
 
-  pub code-obeyed : (decoded : Decoded) (s : Settings) → decoded ≡ byteMeaning code
-      → settingsAfter (act (decodedAnswer decoded code)) s ≡ obeyedAs decoded s
-  unfolding settingsAfter obeyedAs codeMeaning
-  code-obeyed Undefined s e = refl
-  code-obeyed (Means command) s e =
+  pub code-meaning : codeMeaning (2 * code) ≡ byteMeaning code
+  unfolding codeMeaning
+  code-meaning =
       let half : 2 * code / 2 ≡ code = omega arith in
-      simp (le-ltb 511 (2 * code) (omega arith), half, sym e)
+      simp (le-ltb 511 (2 * code) (omega arith), half)
 
 pub code-told : (decoded : Decoded) (code : ℕ) → answerCode (decodedAnswer decoded code) ≡ cond (not (undefined decoded)) 6 7 + 256 * code
 unfolding answerCode

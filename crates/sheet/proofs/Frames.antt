@@ -1,12 +1,13 @@
 -- What a WR rise and an RD fall make of a valid record, phase by phase: what the frame's rule makes of the phase that byte 33
 -- says is written as the bytes of the statement. Assumes nothing.
 use mathlib.Core.Path.{_≡_, _∙_, refl, sym, ap}
-use mathlib.Core.Bool.{true}
+use mathlib.Core.Bool.{Bool, true, false, cond}
 use mathlib.Core.List.{List}
 use mathlib.Core.Logic.{inl, inr, ⊎-elim}
 use Prim.Native.Nat.{ℕ, zero, suc, _+_, _*_, _/_, _%_, _≤_, _<_}
 use native.Mathlib.Nat.{add-zero, mod-eq-of-lt, lt-of-lt-of-le}
 use native.Mathlib.Omega.{arith}
+use lib.Dec.{eqb}
 use lib.ListN.{getD, take}
 use lib.Pow.{pow-mono}
 use lib.Seq.{getD-take}
@@ -19,7 +20,7 @@ use Rattle.commands.specs.Commands.{codeMeaning}
 use Rattle.phases.specs.declared.Phase.{Phase}
 use Rattle.phases.specs.declared.Phase.the-variants.{Ident, ReadTo, WriteTo, Reading, Writing, Command, Dead}
 use Rattle.phases.specs.declared.Line.the-variants.{Released, Driven}
-use Rattle.answers.specs.declared.Answer.the-variants.{Stored, Obeyed, Passed, Stray}
+use Rattle.answers.specs.declared.Answer.the-variants.{Taken, Unknown, Stray}
 use Rattle.lines.specs.declared.Edge.the-variants as edges
 use Rattle.lines.specs.Samples.{levels, edge}
 use Rattle.frames.specs.Frames as model
@@ -27,7 +28,8 @@ use Rattle.frames.specs.Frames.{frame, framed}
 use Rattle.phases.specs.Phases.{address}
 use Rattle.phases.specs.Phases.{unfinished}
 use Rattle.port.specs.Port.{memoryAfter, framedBy}
-use Rattle.chip.specs.Chip.{settingsAfter}
+use Rattle.frames.specs.declared.Upshot.the-variants.{Answered, Nibble, Code}
+use Rattle.chip.specs.Chip.{decodedAnswer, obeyedAs, settingsAfter}
 use Rattle.state.specs.FrameCodes.{phaseRead, phaseNumber, valueOf, positionOf}
 use Rattle.state.specs.Record.{recordValid, chipOf}
 use Rattle.state.proofs.FramesLaws.{frame-has}
@@ -37,6 +39,15 @@ use Rattle.sheet.specs.Bytes.{byte}
 use Rattle.sheet.specs.Frames.{OnlyLevels, Leaves, due, Offers, bits, withBit, beforeLast, identified, nibbleOf, oneMore, Completes, Takes}
 use Rattle.sheet.proofs.FramesLaws.{frameLeft, phase-at, code-said, low-said, high-said, address-said, position-said, read-frame, stray-fall, ident-made}
 use Rattle.sheet.proofs.SamplesLaws.{tells, stores, leaves, port-left, only, framed-by}
+
+-- only an unknown ID is answered otherwise than any other bit
+id-told : (phase : ℕ) → answerCode (cond (eqb phase 7) Unknown Taken) ≡ cond (eqb phase 7) 10 4
+unfolding answerCode
+id-told phase = by (eqb phase 7)
+  where
+    by : (dead : Bool) → answerCode (cond dead Unknown Taken) ≡ cond dead 10 4
+    by true = refl
+    by false = refl
 
 module _ (b : List ℕ) (valid : recordValid b ≡ true) (s : ℕ) (small : s ≤ 15) where
   has : RecordHas b
@@ -59,7 +70,7 @@ module _ (b : List ℕ) (valid : recordValid b ≡ true) (s : ℕ) (small : s �
         record {
           reading = λ e.
               leaves b valid s small (model.readOffered nibble (byte b 37) (byte b 38))
-              (framed-by b valid s small edges.Offers fall (Reading (byte b 37) (byte b 38)) (phase-at b valid 4 e)) _ _ refl
+              (framed-by b valid s small edges.Offers fall (Reading (byte b 37) (byte b 38)) (phase-at b valid 4 e)) _ _ _ refl
               (rw due-said)
               (read-frame (byte b 37) (byte b 38) (Driven (bitAt (byte b 38) nibble)) (within b has 38 (omega arith))
               ∙ rw due-said);
@@ -67,7 +78,7 @@ module _ (b : List ℕ) (valid : recordValid b ≡ true) (s : ℕ) (small : s �
               let writes = Writing (byte b 34) (bits b) (byte b 37) (byte b 38) in
               let now = phase-at b valid 5 e in
               leaves b valid s small (model.writeOffered nibble (byte b 34) (bits b) (byte b 37) (byte b 38))
-              (framed-by b valid s small edges.Offers fall writes now) _ _ refl
+              (framed-by b valid s small edges.Offers fall writes now) _ _ _ refl
               (rw due-said) (rw (due-said, ← low-said b valid writes now, ← high-said b valid writes now));
           stray = λ four five.
               let now = chipOf b .port .phase in
@@ -75,7 +86,7 @@ module _ (b : List ℕ) (valid : recordValid b ≡ true) (s : ℕ) (small : s �
               only b valid s small Stray _
               (framed-by b valid s small edges.Offers fall now refl
               ∙ stray-fall (getD (take 32 b) (address now) 0) now (chipOf b .port .line) (λ e. four (code ∙ e)) (λ e. five (code ∙ e)))
-              refl refl;
+              refl;
         }
 
   -- ---- a WR rise
@@ -97,18 +108,18 @@ module _ (b : List ℕ) (valid : recordValid b ≡ true) (s : ℕ) (small : s �
       unfolding frame
       taken-by = framed-by b valid s small (edges.Takes (bitAt 3 s)) rise phase now
 
-      stray-rise : model.taken (bitAt 3 s) phase (chipOf b .port .line) ≡ framed phase (chipOf b .port .line) Stray
+      stray-rise : model.taken (bitAt 3 s) phase (chipOf b .port .line) ≡ framed phase (chipOf b .port .line) (Answered Stray)
           → OnlyLevels b s 9
       unfolding answerCode
       stray-rise e =
           only b valid s small Stray _
-          (taken-by ∙ e ∙ ap (λ (p : Phase). framed p (chipOf b .port .line) Stray) (sym now)) refl refl
+          (taken-by ∙ e ∙ ap (λ (p : Phase). framed p (chipOf b .port .line) (Answered Stray)) (sym now)) refl
 
       -- a bit taken leads from phase to phase
       leads : (next : Phase) (frame : List ℕ) → model.taken (bitAt 3 s) phase (chipOf b .port .line) ≡ model.collected next
           → frameLeft next Released ≡ frame → Leaves b s 4 frame
       unfolding answerCode
-      leads next frame e bytes = leaves b valid s small (model.collected next) (taken-by ∙ e) 4 frame refl refl bytes
+      leads next frame e bytes = leaves b valid s small (model.collected next) (taken-by ∙ e) 4 frame Taken refl refl bytes
 
       -- or leaves it in its phase
       adds : (next : Phase) → model.taken (bitAt 3 s) phase (chipOf b .port .line) ≡ model.collected next
@@ -143,18 +154,20 @@ module _ (b : List ℕ) (valid : recordValid b ≡ true) (s : ℕ) (small : s �
     more-in (suc (suc (suc (suc (suc (suc (suc zero))))))) e h = let no : ⊥ = omega arith in absurd no
     more-in (suc (suc (suc (suc (suc (suc (suc (suc code)))))))) e h = let no : ⊥ = omega arith in absurd no
 
-    ninth : (decoded : Decoded) → framedBy (chipOf b .port) (levels s) ≡ framed (Command 0 0) Released (model.decodedAnswer decoded (bits b))
-        → Completes b s
-    unfolding answerCode memoryAfter
-    ninth (Means command) e = inl (
-      tells b valid s small (framed (Command 0 0) Released (Obeyed (bits b))) e ∙ add-zero (6 + 256 * bits b),
-      port-left b valid s small (framed (Command 0 0) Released (Obeyed (bits b))) e refl,
+    ninth : (decoded : Decoded) → codeMeaning (2 * bits b) ≡ decoded
+        → framedBy (chipOf b .port) (levels s) ≡ framed (Command 0 0) Released (Code (bits b)) → Completes b s
+    unfolding answerCode memoryAfter settingsAfter obeyedAs
+    ninth (Means command) d e = inl (
+      tells b valid s small (framed (Command 0 0) Released (Code (bits b))) e
+          ∙ ap (λ (m : Decoded). answerCode (decodedAnswer m (bits b))) d ∙ add-zero (6 + 256 * bits b),
+      port-left b valid s small (framed (Command 0 0) Released (Code (bits b))) e refl,
     )
-    ninth Undefined e =
-        inr (leaves b valid s small (framed (Command 0 0) Released (Passed (bits b))) e _ _ refl (add-zero (7 + 256 * bits b)) refl)
+    ninth Undefined d e =
+        inr (stores b valid s small (framed (Command 0 0) Released (Code (bits b))) e _ _ _
+        (ap (λ (m : Decoded). answerCode (decodedAnswer m (bits b))) d ∙ add-zero (7 + 256 * bits b)) refl (rw d) refl)
 
     pub takes : Takes b s
-    unfolding phaseRead model.taken model.identTaken model.readToTaken model.writeToTaken model.nibbleTaken model.commandTaken model.commandAnswer answerCode memoryAfter settingsAfter
+    unfolding phaseRead model.taken model.identTaken model.readToTaken model.writeToTaken model.nibbleTaken model.commandTaken answerCode memoryAfter settingsAfter
     takes =
         record {
           stray =
@@ -164,15 +177,15 @@ module _ (b : List ℕ) (valid : recordValid b ≡ true) (s : ℕ) (small : s �
           identifies = λ e count.
               let made = ident-made (withBit b s) in
               leaves b valid s small (model.identified (withBit b s))
-              (taken-by (Ident (byte b 34) (bits b)) (phase-at b valid 1 e) ∙ rw (count, with-bit)) _ _ (made .0) (made .1) (made .2);
+              (taken-by (Ident (byte b 34) (bits b)) (phase-at b valid 1 e) ∙ rw (count, with-bit)) _ _ _ (made .0) (id-told (identified (withBit b s))) (made .1);
           readsFrom = λ e count.
               leads (ReadTo (byte b 34) (bits b)) (phase-at b valid 2 e) (Reading (withBit b s % 32) 0) _ (rw (count, with-bit)) refl;
           writesFrom = λ e count.
               leads (WriteTo (byte b 34) (bits b)) (phase-at b valid 3 e) (Writing 0 0 (withBit b s % 32) 0) _ (rw (count, with-bit)) refl;
           stores = λ e count.
-              stores b valid s small (framed (Writing 0 0 (model.next (byte b 37)) 0) Released (Stored (byte b 37) (nibbleOf (withBit b s))))
+              stores b valid s small (framed (Writing 0 0 (model.next (byte b 37)) 0) Released (Nibble (byte b 37) (nibbleOf (withBit b s))))
               (taken-by (Writing (byte b 34) (bits b) (byte b 37) (byte b 38)) (phase-at b valid 5 e) ∙ rw (count, with-bit)) _ _ _ refl refl refl refl;
           commands = λ e count.
-              ninth (codeMeaning (withBit b s))
+              ninth (codeMeaning (2 * bits b)) refl
               (taken-by (Command (byte b 34) (bits b)) (phase-at b valid 6 e) ∙ rw (count, with-bit, upper-eight));
         }

@@ -11,20 +11,18 @@ use Rattle.phases.specs.declared.Phase.{Phase}
 use Rattle.phases.specs.declared.Phase.the-variants.{Idle, Ident, ReadTo, WriteTo, Reading, Writing, Command, Dead}
 use Rattle.phases.specs.declared.Line.{Line}
 use Rattle.phases.specs.declared.Line.the-variants.{Released}
-use Rattle.answers.specs.declared.Answer.the-variants.{Stray, Unknown}
-use Rattle.answers.specs.Answers.{Keep}
+use Rattle.answers.specs.declared.Answer.the-variants.{Taken, Stray, Unknown}
+use Rattle.frames.specs.declared.Upshot.the-variants.{Answered}
 use Rattle.frames.specs.declared.Framed.{Framed}
 use Rattle.frames.specs.Frames as model
 use Rattle.frames.specs.Frames.{framed}
 use Rattle.phases.specs.Phases.{address}
-use Rattle.answers.specs.Answers.{act}
 use Rattle.phases.specs.Phases.{unfinished, lineNumber}
 use Rattle.state.specs.FrameCodes.{phaseRead, phaseNumber, valueOf, positionOf, phaseIn}
 use Rattle.state.specs.Record.{recordValid, tailOf, chipOf}
 use Rattle.state.proofs.BytesLaws.{byte-past}
 use Rattle.state.proofs.TripLaws.{trip}
 use Rattle.state.proofs.ChipLaws.{valid-chip}
-use Rattle.simulator.specs.Simulator.{answerCode}
 use Rattle.sheet.specs.Bytes.{byte}
 use Rattle.sheet.specs.Frames.{bits, identified}
 
@@ -84,7 +82,7 @@ read-frame at (suc (suc (suc (suc position)))) line h = let no : ⊥ = omega ari
 
 -- outside reading and writing a fall is stray, in a read frame and in a dead one a rise
 pub stray-fall : (nibble : ℕ) (phase : Phase) (line : Line) → (phaseNumber phase ≡ 4 → ⊥) → (phaseNumber phase ≡ 5 → ⊥)
-    → model.offered nibble phase line ≡ framed phase line Stray
+    → model.offered nibble phase line ≡ framed phase line (Answered Stray)
 unfolding model.offered
 stray-fall nibble Idle line four five = refl
 stray-fall nibble (Ident count value) line four five = refl
@@ -98,17 +96,17 @@ stray-fall nibble Dead line four five = refl
 -- what the third bit of an ID leads to
 abbrev pub Made : Framed → ℕ → Type 0
 Made f phase =
-    (act (f .answer) ≡ Keep) × (answerCode (f .answer) ≡ cond (eqb phase 7) 10 4) × (frameLeft (f .phase) (f .line) ≡ phase ∷ replicate 6 0)
+    (f .upshot ≡ Answered (cond (eqb phase 7) Unknown Taken)) × (frameLeft (f .phase) (f .line) ≡ phase ∷ replicate 6 0)
 
 pub ident-made : (id : ℕ) → Made (model.identified id) (identified id)
-unfolding model.identified answerCode
+unfolding model.identified
 ident-made id = by (eqb id 6) (eqb id 5) (eqb id 4)
   where
     by : (read write command : Bool)
         → Made (cond read (model.collected (ReadTo 0 0))
-        (cond write (model.collected (WriteTo 0 0)) (cond command (model.collected (Command 0 0)) (framed Dead Released Unknown))))
+        (cond write (model.collected (WriteTo 0 0)) (cond command (model.collected (Command 0 0)) (framed Dead Released (Answered Unknown)))))
         (cond read 2 (cond write 3 (cond command 6 7)))
-    by true write command = (refl, refl, refl)
-    by false true command = (refl, refl, refl)
-    by false false true = (refl, refl, refl)
-    by false false false = (refl, refl, refl)
+    by true write command = (refl, refl)
+    by false true command = (refl, refl)
+    by false false true = (refl, refl)
+    by false false false = (refl, refl)

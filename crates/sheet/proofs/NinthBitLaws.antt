@@ -15,11 +15,9 @@ use Rattle.lines.specs.declared.Edge.the-variants.{Rests, Closes, Opens, Clashe
 use Rattle.phases.specs.declared.Phase.{Phase}
 use Rattle.phases.specs.declared.Phase.the-variants.{Idle, Ident, ReadTo, WriteTo, Reading, Writing, Command, Dead}
 use Rattle.phases.specs.declared.Line.{Line}
-use Rattle.answers.specs.declared.Answer.{Answer}
 use Rattle.frames.specs.declared.Framed.{Framed}
 use Rattle.lines.specs.Samples.{edge, rose, clocked}
 use Rattle.frames.specs.Frames.{more, identified, identTaken, readToTaken, writeToTaken, nibbleTaken, commandTaken, taken, readOffered, offered, closed, frame}
-use Rattle.answers.specs.Answers.{act}
 use Rattle.phases.specs.Phases.{unfinished}
 use Rattle.chip.specs.Chip.{settingsAfter}
 use Rattle.state.specs.FrameCodes.{phaseNumber}
@@ -59,7 +57,7 @@ takes-only before after bit = by (before .cs) (after .cs)
 -- ---- a sample changes the settings only where it takes the ninth bit of a command
 
 abbrev Keeps : Settings → Framed → Type 0
-Keeps s framed = settingsAfter (act (framed .answer)) s ≡ s
+Keeps s framed = settingsAfter (framed .upshot) s ≡ s
 
 offered-keeps : (nibble : ℕ) (phase : Phase) (line : Line) (s : Settings) → Keeps s (offered nibble phase line)
 unfolding offered readOffered settingsAfter
@@ -93,8 +91,7 @@ pub frame-keeps : (e : Edge) (nibble : ℕ) (phase : Phase) (line : Line) (s : S
     → ((bit : Bool) → e ≡ Takes bit → phaseNumber phase ≡ 6 → 8 ≤ unfinished phase → ⊥) → Keeps s (frame e nibble phase line)
 unfolding frame closed settingsAfter
 frame-keeps Rests nibble phase line s h = refl
-frame-keeps Closes nibble phase line s h =
-    either (λ (answer : Answer). settingsAfter (act answer) s ≡ s) (eqb (unfinished phase) 0) refl refl
+frame-keeps Closes nibble phase line s h = refl
 frame-keeps Opens nibble phase line s h = refl
 frame-keeps Clashes nibble phase line s h = refl
 frame-keeps (Takes bit) nibble phase line s h = taken-keeps bit phase line s (h bit refl)

@@ -8,7 +8,7 @@ use native.Mathlib.Omega.{arith}
 use lib.Dec.{eqb}
 use borrow.Author.Tests.{lt-ltb, ne-eqb}
 use Rattle.ground.specs.Bits.{bitAt}
-use Rattle.answers.specs.Answers.{Keep}
+use Rattle.frames.specs.declared.Upshot.the-variants.{Answered}
 use Rattle.phases.specs.declared.Line.{Line}
 use Rattle.phases.specs.declared.Line.the-variants.{Released}
 use Rattle.phases.specs.declared.Phase.{Phase}
@@ -19,7 +19,6 @@ use Rattle.lines.specs.declared.Edge.{Edge}
 use Rattle.lines.specs.declared.Edge.the-variants as edges
 use Rattle.lines.specs.Samples.{levels, clocked, edge}
 use Rattle.frames.specs.Frames.{frame, framed, closed}
-use Rattle.answers.specs.Answers.{act}
 use Rattle.phases.specs.Phases.{unfinished}
 use Rattle.phases.specs.Valid.{FrameValid}
 use Rattle.state.specs.Record.{goesWithCs, recordValid, chipOf}
@@ -42,11 +41,10 @@ same-test false true e = e
 same-test false false e = refl
 
 -- what closes tells whether bits were unfinished
-closing : (finished : Bool)
-    → (act (cond finished Closed Dropped) ≡ Keep) × (answerCode (cond finished Closed Dropped) ≡ cond finished 2 3)
+closing : (finished : Bool) → answerCode (cond finished Closed Dropped) ≡ cond finished 2 3
 unfolding answerCode
-closing true = (refl, refl)
-closing false = (refl, refl)
+closing true = refl
+closing false = refl
 
 module _ (b : List ℕ) (valid : recordValid b ≡ true) (s : ℕ) (small : s ≤ 15) where
   abbrev phase : Phase
@@ -61,10 +59,10 @@ module _ (b : List ℕ) (valid : recordValid b ≡ true) (s : ℕ) (small : s �
 
   -- an edge that leaves the frame
   stays : (answer : Answer) (sort : Edge) (returned : ℕ) → edge (chipOf b .port .levels) (levels s) ≡ sort
-      → ((nibble : ℕ) → frame sort nibble phase line ≡ framed phase line answer) → act answer ≡ Keep → answerCode answer ≡ returned
+      → ((nibble : ℕ) → frame sort nibble phase line ≡ framed phase line (Answered answer)) → answerCode answer ≡ returned
       → OnlyLevels b s returned
-  stays answer sort returned e same keep told =
-      only b valid s small answer returned (framed-by b valid s small sort e phase refl ∙ same _) keep told
+  stays answer sort returned e same told =
+      only b valid s small answer returned (framed-by b valid s small sort e phase refl ∙ same _) told
 
   in-frame : (rise fall : Bool) → edge (chipOf b .port .levels) (levels s) ≡ clocked rise fall (bitAt 3 s) → Clocked b s rise fall
   unfolding frame answerCode
@@ -72,10 +70,10 @@ module _ (b : List ℕ) (valid : recordValid b ≡ true) (s : ℕ) (small : s �
       let at : (x y : Bool) → rise ≡ x → fall ≡ y → edge (chipOf b .port .levels) (levels s) ≡ clocked x y (bitAt 3 s) =
       λ x y r f. e ∙ ap₂ (λ (x : Bool) (y : Bool). clocked x y (bitAt 3 s)) r f in
       record {
-        clash = λ r f. stays Clash edges.Clashes _ (at true true r f) (λ nibble. refl) refl refl;
+        clash = λ r f. stays Clash edges.Clashes _ (at true true r f) (λ nibble. refl) refl;
         taken = λ r f. takes b valid s small (at true false r f);
         offered = λ r f. offers b valid s small (at false true r f);
-        quiet = λ r f. stays Nothing edges.Quiet _ (at false false r f) (λ nibble. refl) refl refl;
+        quiet = λ r f. stays Nothing edges.Quiet _ (at false false r f) (λ nibble. refl) refl;
       }
 
   sampled : Sampled b s
@@ -88,15 +86,15 @@ module _ (b : List ℕ) (valid : recordValid b ≡ true) (s : ℕ) (small : s �
             let idle : phase ≡ Idle = phase-at b valid 0 none in
             let released : line ≡ Released = subst (FrameValid (chipOf b .port .levels .cs) line) idle (valid-chip b valid .port .frame) .1 in
             stays Nothing edges.Rests _ (rw (high, before))
-            (λ nibble. ap₂ (λ (p : Phase) (l : Line). framed p l Nothing) (sym idle) (sym released)) refl refl;
+            (λ nibble. ap₂ (λ (p : Phase) (l : Line). framed p l (Answered Nothing)) (sym idle) (sym released)) refl;
         closes = λ high some.
             let before : eqb (byte b 32 % 2) 1 ≡ false = cs-said ∙ ne-eqb (byte b 33) 0 (λ z. omega (arith, z)) in
             let told = closing (eqb (unfinished phase) 0) in
-            leaves b valid s small (closed phase) (framed-by b valid s small edges.Closes (rw (high, before)) phase refl) _ _ (told .0)
-            (told .1 ∙ ap (λ (count : ℕ). cond (eqb count 0) 2 3) (sym (count-said b valid phase refl))) refl;
+            leaves b valid s small (closed phase) (framed-by b valid s small edges.Closes (rw (high, before)) phase refl) _ _ _ refl
+            (told ∙ ap (λ (count : ℕ). cond (eqb count 0) 2 3) (sym (count-said b valid phase refl))) refl;
         opens = λ low before.
-            leaves b valid s small (framed (Ident 0 0) Released Opened)
-            (framed-by b valid s small edges.Opens (rw (low, before)) phase refl) _ _ refl refl refl;
+            leaves b valid s small (framed (Ident 0 0) Released (Answered Opened))
+            (framed-by b valid s small edges.Opens (rw (low, before)) phase refl) _ _ Opened refl refl refl;
         clocked = λ after before. in-frame _ _ (clocked-edge b valid s small after before);
       }
 

@@ -11,18 +11,18 @@ use Rattle.ground.specs.Bits.{bitAt}
 use Rattle.settings.specs.declared.Settings.{Settings}
 use Rattle.phases.specs.declared.Phase.{Phase}
 use Rattle.phases.specs.declared.Line.{Line}
-use Rattle.answers.specs.Answers.{Keep}
 use Rattle.frames.specs.declared.Framed.{Framed}
+use Rattle.frames.specs.declared.Upshot.{Upshot}
+use Rattle.frames.specs.declared.Upshot.the-variants.{Answered}
 use Rattle.answers.specs.declared.Answer.{Answer}
 use Rattle.lines.specs.declared.Edge.{Edge}
 use Rattle.lines.specs.Samples.{levels, edge, clocked}
 use Rattle.frames.specs.Frames.{frame, framed}
 use Rattle.phases.specs.Phases.{address}
-use Rattle.answers.specs.Answers.{act}
 use Rattle.chip.specs.declared.Chip.{Chip}
 use Rattle.chip.specs.declared.Stepped.{Stepped}
 use Rattle.port.specs.Port.{memoryAfter, framedBy, movedAs, moved}
-use Rattle.chip.specs.Chip.{settingsAfter, steppedAs, stepped}
+use Rattle.chip.specs.Chip.{told, settingsAfter, steppedAs, steppedTo, stepped}
 use Rattle.chip.proofs.ValidLaws.{stepped-valid}
 use Rattle.lines.specs.Samples.{levelsNumber}
 use Rattle.state.specs.Record.{recordValid, frameBytes, settingsBytes, tailOf, recordOf, chipOf}
@@ -86,34 +86,34 @@ module _ (b : List ℕ) (valid : recordValid b ≡ true) where
 
     module _ (f : Framed) (e : framedBy (c .port) (levels s) ≡ f) where
       stepped-is : stepped c s ≡ steppedAs c (movedAs (c .port) (levels s) f)
-      unfolding stepped moved
+      unfolding stepped steppedTo moved
       stepped-is = rw (le-ltb 15 s small, e)
 
-      pub tells : stepReturns b s ≡ answerCode (f .answer)
+      pub tells : stepReturns b s ≡ answerCode (told (f .upshot))
       tells = step-tells ∙ ap (λ (r : Stepped). answerCode (r .answer)) stepped-is
 
       -- a frame that keeps the settings
-      pub stores : (returned : ℕ) (memory frame : List ℕ) → answerCode (f .answer) ≡ returned
-          → memoryAfter (act (f .answer)) (take 32 b) ≡ memory → settingsAfter (act (f .answer)) (c .settings) ≡ c .settings
+      pub stores : (returned : ℕ) (memory frame : List ℕ) → answerCode (told (f .upshot)) ≡ returned
+          → memoryAfter (f .upshot) (take 32 b) ≡ memory → settingsAfter (f .upshot) (c .settings) ≡ c .settings
           → frameLeft (f .phase) (f .line) ≡ frame → Stores b s returned memory frame
       unfolding chipOf
       stores returned memory frame answer store kept bytes = (
         tells ∙ answer,
         step-leaves ∙ ap (λ (r : Stepped). recordOf (r .chip)) stepped-is
             ∙ ap (λ (set : Settings). recordOf (record { port = movedAs (c .port) (levels s) f .port; settings = set })) kept
-            ∙ written (memoryAfter (act (f .answer)) (take 32 b)) (f .phase) (f .line)
+            ∙ written (memoryAfter (f .upshot) (take 32 b)) (f .phase) (f .line)
             ∙ ap (λ (m : List ℕ). m ++ s ∷ frameLeft (f .phase) (f .line) ++ drop 40 b) store
             ∙ ap (λ (l : List ℕ). memory ++ s ∷ l ++ drop 40 b) bytes,
       )
 
       -- and one that keeps the memory too
-      pub leaves : (returned : ℕ) (frame : List ℕ) → act (f .answer) ≡ Keep → answerCode (f .answer) ≡ returned
+      pub leaves : (returned : ℕ) (frame : List ℕ) → (answer : Answer) → f .upshot ≡ Answered answer → answerCode answer ≡ returned
           → frameLeft (f .phase) (f .line) ≡ frame → Leaves b s returned frame
       unfolding memoryAfter settingsAfter
-      leaves returned frame keep answer bytes = stores returned (take 32 b) frame answer (rw keep) (rw keep) bytes
+      leaves returned frame answer is told bytes = stores returned (take 32 b) frame (rw is told) (rw is) (rw is) bytes
 
       -- whatever becomes of the settings
-      pub port-left : memoryAfter (act (f .answer)) (take 32 b) ≡ take 32 b
+      pub port-left : memoryAfter (f .upshot) (take 32 b) ≡ take 32 b
           → take 40 (stepBytes b s) ≡ take 32 b ++ s ∷ frameLeft (f .phase) (f .line)
       unfolding chipOf
       port-left keep =
@@ -124,13 +124,13 @@ module _ (b : List ℕ) (valid : recordValid b ≡ true) where
           ∙ ap (λ (n : ℕ). take 32 b ++ n ∷ frameLeft (f .phase) (f .line)) (lines-again s small)
 
     -- a frame that stays as it was
-    pub only : (answer : Answer) (returned : ℕ) → framedBy (c .port) (levels s) ≡ framed (c .port .phase) (c .port .line) answer
-        → act answer ≡ Keep → answerCode answer ≡ returned → OnlyLevels b s returned
+    pub only : (answer : Answer) (returned : ℕ) → framedBy (c .port) (levels s) ≡ framed (c .port .phase) (c .port .line) (Answered answer)
+        → answerCode answer ≡ returned → OnlyLevels b s returned
     unfolding chipOf memoryAfter settingsAfter
-    only answer returned e keep told = (
-      tells (framed (c .port .phase) (c .port .line) answer) e ∙ told,
-      step-leaves ∙ ap (λ (r : Stepped). recordOf (r .chip)) (stepped-is (framed (c .port .phase) (c .port .line) answer) e)
-          ∙ rw keep levels-written,
+    only answer returned e told = (
+      tells (framed (c .port .phase) (c .port .line) (Answered answer)) e ∙ told,
+      step-leaves ∙ ap (λ (r : Stepped). recordOf (r .chip)) (stepped-is (framed (c .port .phase) (c .port .line) (Answered answer)) e)
+          ∙ levels-written,
     )
 
     pub levels-stored : byte (stepBytes b s) 32 ≡ s
