@@ -1,6 +1,6 @@
--- The walk of `inplace::step_in_place`, for any layout of a chip and an answer (Laid.antt). The borrow is opened, the chip that stands there is
--- copied and passed by value, the chip that came back is stored where the old one stood, and the borrow is closed at it. All
--- that it knows of the function called is that it meets its contract. Assumes nothing.
+-- The walk of `inplace::step_in_place`, for any layout of a chip and an answer (Laid.antt). The borrow is opened, the chip that
+-- stands there is copied and passed by value, the chip that came back is stored where the old one stood, and the borrow is closed
+-- at it. All that it knows of the function called is that it meets its contract. Assumes nothing.
 use mathlib.Core.Path.{refl, ap}
 use Prim.Native.Nat.{ℕ, _<_, _^_}
 use mathlib.Core.List.{[], _∷_, List}

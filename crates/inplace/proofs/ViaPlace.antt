@@ -1,6 +1,6 @@
--- The walk of `inplace::via_place`, for any layout of a chip and an answer (Laid.antt). The chip is copied to a local, the local is lent for a
--- lifetime that is made for the call, and is read again once that has ended. All that it knows of the function called is that
--- it meets its contract. Assumes nothing.
+-- The walk of `inplace::via_place`, for any layout of a chip and an answer (Laid.antt). The chip is copied to a local, the local is
+-- lent for a lifetime that is made for the call, and is read again once that has ended. All that it knows of the function called
+-- is that it meets its contract. Assumes nothing.
 use mathlib.Core.Path.{refl, ap, subst}
 use Prim.Native.Nat.{ℕ, _<_, _^_}
 use mathlib.Core.List.{[], _∷_, List}
