@@ -1,5 +1,5 @@
 -- Each call answers by a ladder, and its ladder is the table: row by row, once the stream's length is known. Assumes nothing.
-use mathlib.Core.Path.{_≡_, _∙_, refl, ap₂, subst}
+use mathlib.Core.Path.{_≡_, refl, subst}
 use mathlib.Core.Bool.{Bool, true, false, cond}
 use mathlib.Core.List.{List, [], _∷_, map}
 use Prim.Native.Nat.{ℕ, _+_, _*_, _/_}
@@ -17,14 +17,7 @@ use Rattle.simulator.specs.Simulator.{stepReturns, advanceReturns, pinsReturns}
 use Rattle.host.specs.Host.{hostCode, recordRefusals, powerOnAnswer, powerOnReturns, writeReturns, readReturns, commandsReturns, decodeReturns}
 use Rattle.demands.specs.Accepted.{writeTable, readTable, commandTable, decodeTable, powerOnTable, codeBy, Accepted}
 
--- a ladder whose rows and size are those of a table
-tabled : (rungs : List Rung) (size : ℕ) (table : List Row) (bytes : ℕ) → map rowOf rungs ≡ table → size ≡ bytes
-    → AsTabled table bytes (ladder Refused rungs (Written size))
-tabled rungs size table bytes rows same =
-    subst (λ t. AsTabled t bytes (ladder Refused rungs (Written size))) rows
-    (subst (λ n. AsTabled (map rowOf rungs) n (ladder Refused rungs (Written size))) same (ladder-tabled rungs size))
-
--- and what a call returns of such a ladder
+-- what a call returns of a ladder
 told : (rungs : List Rung) (size : ℕ) → hostCode (ladder Refused rungs (Written size)) ≡ codeBy (map rowOf rungs) size
 unfolding hostCode
 told [] size = refl
@@ -36,40 +29,56 @@ told (rung ∷ rungs) size = by (rung .holds) (told rungs size)
     by true rest = refl
     by false rest = rest
 
-returned : (rungs : List Rung) (size : ℕ) (table : List Row) (bytes : ℕ) → map rowOf rungs ≡ table → size ≡ bytes
-    → hostCode (ladder Refused rungs (Written size)) ≡ codeBy table bytes
-returned rungs size table bytes rows same = told rungs size ∙ ap₂ codeBy rows same
+-- what is owed of a ladder by its table, of the answer and of the call for C
+record Tabled (rungs : List Rung) (size : ℕ) (table : List Row) (bytes : ℕ) : Type 0 where
+  answer : AsTabled table bytes (ladder Refused rungs (Written size))
+  code : hostCode (ladder Refused rungs (Written size)) ≡ codeBy table bytes
+
+-- it holds where rows and size are those of the table
+tabled : {rungs : List Rung} {size : ℕ} {table : List Row} {bytes : ℕ} → map rowOf rungs ≡ table → size ≡ bytes → Tabled rungs size table bytes
+tabled {rungs} {size} {table} {bytes} rows same =
+    subst (λ t. Tabled rungs size t bytes) rows
+    (subst (Tabled rungs size (map rowOf rungs)) same (record { answer = ladder-tabled rungs size; code = told rungs size }))
+
+-- ---- request by request
+
+write : (first : ℕ) (nibbles : List ℕ) (room : ℕ)
+    → Tabled (writeRefusals first nibbles room) (length (writeStream first nibbles)) (writeTable first nibbles room) (21 + 8 * length nibbles)
+unfolding outsideMemory
+write first nibbles room = tabled (rw (write-length first nibbles) refl) (write-length first nibbles)
+
+read : (first count room : ℕ)
+    → Tabled (readRefusals first count room) (length (readStream first count)) (readTable first count room) (21 + 8 * count)
+unfolding outsideMemory
+read first count room = tabled (rw (read-length first count) refl) (read-length first count)
+
+commands : (codes : List ℕ) (room : ℕ)
+    → Tabled (commandRefusals codes room) (length (commandStream codes)) (commandTable codes room) (9 + 18 * length codes)
+unfolding tooMany
+commands codes room = tabled (rw (commands-length codes) refl) (commands-length codes)
+
+decode : (noted : List ℕ) (room : ℕ)
+    → Tabled (decodeRefusals noted room) (length (decoded noted)) (decodeTable noted room) (length noted / 4)
+unfolding miscounted
+decode noted room = tabled (rw (decoded-length noted) refl) (decoded-length noted)
+
+power-on : (memory : List ℕ) (room : ℕ) → Tabled (recordRefusals memory room) 64 (powerOnTable memory room) 64
+power-on memory room = tabled refl refl
 
 pub accepted : Accepted
-unfolding writeReturns readReturns commandsReturns decodeReturns powerOnReturns stepReturns advanceReturns pinsReturns writeAnswer readAnswer commandAnswer decodeAnswer powerOnAnswer outsideMemory tooMany miscounted
+unfolding writeReturns readReturns commandsReturns decodeReturns powerOnReturns stepReturns advanceReturns pinsReturns writeAnswer readAnswer commandAnswer decodeAnswer powerOnAnswer
 accepted =
     record {
-      write = λ first nibbles room.
-          tabled (writeRefusals first nibbles room) (length (writeStream first nibbles)) (writeTable first nibbles room) (21 + 8 * length nibbles)
-          (rw (write-length first nibbles) refl) (write-length first nibbles);
-      read = λ first count room.
-          tabled (readRefusals first count room) (length (readStream first count)) (readTable first count room) (21 + 8 * count)
-          (rw (read-length first count) refl) (read-length first count);
-      commands = λ codes room.
-          tabled (commandRefusals codes room) (length (commandStream codes)) (commandTable codes room) (9 + 18 * length codes)
-          (rw (commands-length codes) refl) (commands-length codes);
-      decode = λ noted room.
-          tabled (decodeRefusals noted room) (length (decoded noted)) (decodeTable noted room) (length noted / 4)
-          (rw (decoded-length noted) refl) (decoded-length noted);
-      powerOn = λ memory room. tabled (recordRefusals memory room) 64 (powerOnTable memory room) 64 refl refl;
-      writeCall = λ first nibbles out.
-          returned (writeRefusals first nibbles (length out)) (length (writeStream first nibbles)) (writeTable first nibbles (length out)) (21 + 8 * length nibbles)
-          (rw (write-length first nibbles) refl) (write-length first nibbles);
-      readCall = λ first count out.
-          returned (readRefusals first count (length out)) (length (readStream first count)) (readTable first count (length out)) (21 + 8 * count)
-          (rw (read-length first count) refl) (read-length first count);
-      commandsCall = λ codes out.
-          returned (commandRefusals codes (length out)) (length (commandStream codes)) (commandTable codes (length out)) (9 + 18 * length codes)
-          (rw (commands-length codes) refl) (commands-length codes);
-      decodeCall = λ noted out.
-          returned (decodeRefusals noted (length out)) (length (decoded noted)) (decodeTable noted (length out)) (length noted / 4)
-          (rw (decoded-length noted) refl) (decoded-length noted);
-      powerOnCall = λ memory bytes. returned (recordRefusals memory (length bytes)) 64 (powerOnTable memory (length bytes)) 64 refl refl;
+      write = λ first nibbles room. write first nibbles room .answer;
+      read = λ first count room. read first count room .answer;
+      commands = λ codes room. commands codes room .answer;
+      decode = λ noted room. decode noted room .answer;
+      powerOn = λ memory room. power-on memory room .answer;
+      writeCall = λ first nibbles out. write first nibbles (length out) .code;
+      readCall = λ first count out. read first count (length out) .code;
+      commandsCall = λ codes out. commands codes (length out) .code;
+      decodeCall = λ noted out. decode noted (length out) .code;
+      powerOnCall = λ memory bytes. power-on memory (length bytes) .code;
       step = λ bytes sample. refl;
       advance = λ bytes. refl;
       pins = λ bytes cells. refl;

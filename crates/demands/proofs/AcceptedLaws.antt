@@ -10,6 +10,7 @@ use lib.Dec.{ltb}
 use lib.ListN.{length, take, getD}
 use borrow.Author.Tests.{ltb-false, eqb-false, lt-ltb, le-ltb}
 use Rattle.ground.specs.Places.{lowest}
+use Rattle.ground.specs.Sizes.{addresses}
 use Rattle.ground.specs.Written.{over}
 use Rattle.ground.proofs.WrittenLaws.{take-over}
 use Rattle.ground.proofs.PlacesLaws.{lowest-below, none-above}
@@ -50,7 +51,7 @@ defined-from (code ∷ codes) f =
 
 pub record Fit (first : ℕ) (ns : List ℕ) : Type 0 where
   pub some : 0 < length ns
-  pub inside : first + length ns ≤ 32
+  pub inside : first + length ns ≤ addresses
   pub nibbles : Nibbles ns
 
 pub accepted-write : (first : ℕ) (ns : List ℕ) → AcceptsWrite first ns → Fit first ns
@@ -85,7 +86,7 @@ accepted-enough first ns room count e =
 
 -- ---- a read
 
-pub accepted-read : (first count : ℕ) → AcceptsRead first count → (0 < count) × (first + count ≤ 32)
+pub accepted-read : (first count : ℕ) → AcceptsRead first count → (0 < count) × (first + count ≤ addresses)
 unfolding outsideMemory
 accepted-read first count e =
     let none = accepted .read first count (length (readStream first count)) .acceptedOnly _ e in

@@ -1,11 +1,12 @@
 -- Calls on the record of a valid chip are events on the chip: they leave the record of the chip after them, return the numbers
 -- of its answers, and note what it drives. Assumes nothing.
 use mathlib.Core.Path.{_≡_, _∙_, refl, sym, ap, ap₂, subst}
-use mathlib.Core.Bool.{Bool, true, false, cond}
+use mathlib.Core.Bool.{true, false}
 use mathlib.Core.List.{List, [], _∷_, map}
 use Prim.Native.Nat.{ℕ, _≤_}
 use lib.Dec.{ltb}
 use borrow.Author.Tests.{le-ltb, ltb-true}
+use Rattle.ground.proofs.ChoiceLaws.{by-cases}
 use Rattle.lines.specs.declared.Levels.{Levels}
 use Rattle.phases.specs.declared.Line.{Line}
 use Rattle.phases.specs.declared.Line.the-variants.{Released, Driven}
@@ -15,21 +16,26 @@ use Rattle.chip.specs.declared.Chip.{Chip}
 use Rattle.chip.specs.declared.Stepped.{Stepped}
 use Rattle.chip.specs.Chip.{stepped, advanced}
 use Rattle.chip.specs.Valid.{Valid}
+<<<<<<< ours
 use Rattle.chip.proofs.ValidLaws.{stepped-valid, refused-keeps, ticked-valid, advanced-valid}
+=======
+use Rattle.chip.proofs.ValidLaws.{stepped-valid, refused-keeps, advanced-valid}
+use Rattle.place.specs.Place.{answerCode}
+>>>>>>> theirs
 use Rattle.state.specs.Record.{byte, tailOf, recordOf}
 use Rattle.state.proofs.BytesLaws.{byte-past}
 use Rattle.state.proofs.ChipLaws.{chip-valid, chip-again}
 use Rattle.state.proofs.CodesLaws.{levels-back}
+<<<<<<< ours
 use Rattle.simulator.specs.Simulator.{answerCode, stepReturns, stepBytes, advanceBytes}
 use Rattle.demands.specs.Events.{Event, sample, tick, happened, after, answers, dataNumber, notes}
+=======
+use Rattle.simulator.specs.Simulator.{stepReturns, stepBytes, advanceBytes}
+use Rattle.demands.specs.Events.{after, answers, dataNumber, notes}
+>>>>>>> theirs
 use Rattle.demands.specs.Calls.{Call, step, advance, afterCalls, eventsOf, sent, returns, dataNoted, noted}
 use Rattle.demands.proofs.EventsLaws.{after-pause, answers-pause, notes-pause, samples-pause}
 use Rattle.demands.proofs.Ports.{Sixteen}
-
-pub after-valid : (c : Chip) (es : List Event) → Valid c → Valid (after c es)
-after-valid c [] v = v
-after-valid c (sample s ∷ es) v = after-valid (happened c (sample s)) es (stepped-valid c s v)
-after-valid c (tick ∷ es) v = after-valid (happened c tick) es (ticked-valid c v)
 
 -- ---- the bytes of a valid chip
 
@@ -64,11 +70,10 @@ module _ (c : Chip) (v : Valid c) where
 
   step-leaves : (s : ℕ) → stepBytes (recordOf c) s ≡ recordOf (stepped c s .chip)
   unfolding stepBytes
-  step-leaves s = simp (chip-valid c v, chip-again c (v .port .size)) (by (ltb 15 s) refl)
-    where
-      by : (above : Bool) → ltb 15 s ≡ above → cond above (recordOf c) (recordOf (stepped c s .chip)) ≡ recordOf (stepped c s .chip)
-      by true e = ap (λ (r : Stepped). recordOf (r .chip)) (sym (refused-keeps c s (ltb-true 15 s e)))
-      by false e = refl
+  step-leaves s =
+      simp (chip-valid c v, chip-again c (v .port .size))
+      (by-cases (λ bytes. bytes ≡ recordOf (stepped c s .chip)) (ltb 15 s)
+      (λ e. ap (λ (r : Stepped). recordOf (r .chip)) (sym (refused-keeps c s (ltb-true 15 s e)))) (λ e. refl))
 
   step-tells : (s : ℕ) → s ≤ 15 → stepReturns (recordOf c) s ≡ answerCode (stepped c s .answer)
   unfolding stepReturns

@@ -5,8 +5,6 @@ use mathlib.Core.Bool.{Bool, true, false, true≢false}
 use mathlib.Core.List.{List, [], _∷_, _++_}
 use Prim.Native.Nat.{ℕ, _+_, _*_, _/_, _%_, _<_}
 use native.Mathlib.Omega.{arith}
-use Rattle.ground.specs.Bits.{bitAt}
-use Rattle.ground.specs.Values.{values, agree}
 use Rattle.commands.specs.declared.Decoded.{Decoded}
 use Rattle.commands.specs.declared.Decoded.the-variants.{Undefined, Means}
 use Rattle.commands.specs.Commands.{codeMeaning, undefined}
@@ -15,42 +13,32 @@ use Rattle.phases.specs.declared.Phase.the-variants.{Command}
 use Rattle.phases.specs.declared.Line.the-variants.{Released}
 use Rattle.answers.specs.declared.Answer.{Answer}
 use Rattle.answers.specs.declared.Answer.the-variants.{Nothing, Opened, Closed, Obeyed}
-use Rattle.frames.specs.Frames.{more, frame, closed, taken, identTaken, identified, commandTaken, commandAnswer}
+use Rattle.frames.specs.Frames.{frame, closed, taken, identTaken, identified, commandTaken, commandAnswer}
 use Rattle.chip.specs.Chip.{decodedAnswer}
 use Rattle.answers.specs.Answers.{act}
 use Rattle.port.specs.declared.Port.{Port}
 use Rattle.port.specs.Port.{memoryAfter, framedBy, moved}
 use Rattle.driver.specs.Refusals.{commandFault}
 use Rattle.driver.specs.Streams.{commandId, commandBits}
-use Rattle.demands.proofs.Ports.{runP, run-append, trace, trace-append, idle, high, high-idles}
+use Rattle.demands.specs.Stopped.{firstAnswer, bitAnswers}
+use Rattle.demands.proofs.Ports.{runP, run-append, run-headed, trace, trace-append, trace-headed, idle, high}
+use Rattle.demands.proofs.SentLaws.{codeSent, code-sent}
 use Rattle.demands.proofs.StreamLevels.{up, bitsL, headL, commandsL}
-use Rattle.demands.proofs.TraceLaws.{bitAnswers}
 
 -- every code has a meaning
 abbrev pub Defined : List ℕ → Type 0
 Defined [] = Unit {0}
 Defined (code ∷ codes) = ((code < 256) × (commandFault code ≡ false)) × Defined codes
 
--- ---- nine bits and the code that they make
-
-abbrev nine : ℕ → ℕ
-nine code =
-    more (more (more (more (more (more (more (more (more 0 (bitAt 7 code)) (bitAt 6 code)) (bitAt 5 code)) (bitAt 4 code))
-    (bitAt 3 code)) (bitAt 2 code)) (bitAt 1 code)) (bitAt 0 code)) false
-
-nines : values nine 0 256 ≡ values (λ code. 2 * code) 0 256
-nines = refl
-
-nine-bits : (code : ℕ) → code < 256 → nine code ≡ 2 * code
-nine-bits code h = agree nine (λ k. 2 * k) 256 nines code h
+-- ---- the answer to a ninth bit
 
 defined-obeys : (decoded : Decoded) (code : ℕ) → undefined decoded ≡ false → decodedAnswer decoded code ≡ Obeyed code
 defined-obeys Undefined code e = absurd (true≢false e)
 defined-obeys (Means command) code e = refl
 
-code-obeyed : (code : ℕ) → code < 256 → commandFault code ≡ false → commandAnswer (nine code) ≡ Obeyed code
+code-obeyed : (code : ℕ) → code < 256 → commandFault code ≡ false → commandAnswer (codeSent code) ≡ Obeyed code
 unfolding commandAnswer commandFault
-code-obeyed code h e = rw (nine-bits code h, half) (defined-obeys (codeMeaning (2 * code)) code e)
+code-obeyed code h e = rw (code-sent code h, half) (defined-obeys (codeMeaning (2 * code)) code e)
   where
     half : 2 * code / 2 % 256 ≡ code
     half = omega arith
@@ -62,12 +50,12 @@ abbrev commanding : Bool → List ℕ → Port
 commanding b m = record { memory = m; levels = up b; phase = Command 0 0; line = Released }
 
 command-run : (b : Bool) (m : List ℕ) (code : ℕ)
-    → runP (commanding b m) (bitsL (commandBits code)) ≡ commanding false (memoryAfter (act (commandAnswer (nine code))) m)
+    → runP (commanding b m) (bitsL (commandBits code)) ≡ commanding false (memoryAfter (act (commandAnswer (codeSent code))) m)
 unfolding moved framedBy frame taken commandTaken memoryAfter
 command-run b m code = refl
 
 command-trace : (b : Bool) (m : List ℕ) (code : ℕ)
-    → trace (commanding b m) (bitsL (commandBits code)) ≡ bitAnswers 8 ++ Nothing ∷ commandAnswer (nine code) ∷ []
+    → trace (commanding b m) (bitsL (commandBits code)) ≡ bitAnswers 8 ++ Nothing ∷ commandAnswer (codeSent code) ∷ []
 unfolding moved framedBy frame taken commandTaken memoryAfter
 command-trace b m code = refl
 
@@ -91,9 +79,9 @@ closes : (b : Bool) (m : List ℕ) → trace (commanding b m) (high ∷ []) ≡ 
 unfolding moved framedBy frame closed
 closes b m = refl
 
-closed-memory : (b : Bool) (m : List ℕ) → runP (commanding b m) (high ∷ []) .memory ≡ m
+closes-idle : (b : Bool) (m : List ℕ) → runP (commanding b m) (high ∷ []) ≡ idle m high
 unfolding moved framedBy frame closed memoryAfter
-closed-memory b m = refl
+closes-idle b m = refl
 
 body-answers : (codes : List ℕ) (b : Bool) (m : List ℕ) → Defined codes → trace (commanding b m) (commandsL codes) ≡ commandsAnswers codes
 body-answers [] b m v = closes b m
@@ -104,12 +92,12 @@ body-answers (code ∷ codes) b m v =
     ∙ ap (λ (rest : List Answer). bitAnswers 8 ++ Nothing ∷ Obeyed code ∷ rest)
     (ap (λ (q : Port). trace q (commandsL codes)) (command-step code (v .0 .0) (v .0 .1) b m) ∙ body-answers codes false m (v .1))
 
-body-memory : (codes : List ℕ) (b : Bool) (m : List ℕ) → Defined codes → runP (commanding b m) (commandsL codes) .memory ≡ m
-body-memory [] b m v = closed-memory b m
-body-memory (code ∷ codes) b m v =
-    ap (λ (q : Port). q .memory) (run-append (commanding b m) (bitsL (commandBits code)) (commandsL codes))
-    ∙ ap (λ (q : Port). runP q (commandsL codes) .memory) (command-step code (v .0 .0) (v .0 .1) b m)
-    ∙ body-memory codes false m (v .1)
+body-leaves : (codes : List ℕ) (b : Bool) (m : List ℕ) → Defined codes → runP (commanding b m) (commandsL codes) ≡ idle m high
+body-leaves [] b m v = closes-idle b m
+body-leaves (code ∷ codes) b m v =
+    run-append (commanding b m) (bitsL (commandBits code)) (commandsL codes)
+    ∙ ap (λ (q : Port). runP q (commandsL codes)) (command-step code (v .0 .0) (v .0 .1) b m)
+    ∙ body-leaves codes false m (v .1)
 
 abbrev restL : List Levels
 restL = up true ∷ bitsL commandId
@@ -125,19 +113,12 @@ head-answers m = refl
 abbrev pub commandL : List ℕ → List Levels
 commandL codes = headL commandId ++ commandsL codes
 
-pub command-memory : (p : Port) (codes : List ℕ) → Defined codes → runP p (commandL codes) .memory ≡ p .memory
-command-memory p codes v =
-    ap (λ (q : Port). runP q (restL ++ commandsL codes) .memory) (high-idles p)
-    ∙ ap (λ (q : Port). q .memory) (run-append (idle (p .memory) high) restL (commandsL codes))
-    ∙ ap (λ (q : Port). runP q (commandsL codes) .memory) (head-run (p .memory))
-    ∙ body-memory codes false (p .memory) v
+pub command-leaves : (p : Port) (codes : List ℕ) → Defined codes → runP p (commandL codes) ≡ idle (p .memory) high
+command-leaves p codes v =
+    run-headed p restL (commandsL codes) (commanding false (p .memory)) (head-run (p .memory)) ∙ body-leaves codes false (p .memory) v
 
 pub stream-answers : (p : Port) (codes : List ℕ) → Defined codes
-    → trace p (commandL codes) ≡ moved p high .answer ∷ Opened ∷ bitAnswers 3 ++ commandsAnswers codes
+    → trace p (commandL codes) ≡ firstAnswer p ∷ Opened ∷ bitAnswers 3 ++ commandsAnswers codes
 stream-answers p codes v =
-    ap (λ (rest : List Answer). moved p high .answer ∷ rest)
-    (ap (λ (q : Port). trace q (restL ++ commandsL codes)) (high-idles p)
-    ∙ trace-append (idle (p .memory) high) restL (commandsL codes)
-    ∙ ap (λ (done : List Answer). done ++ trace (runP (idle (p .memory) high) restL) (commandsL codes)) (head-answers (p .memory))
-    ∙ ap (λ (rest : List Answer). Opened ∷ bitAnswers 3 ++ rest)
-    (ap (λ (q : Port). trace q (commandsL codes)) (head-run (p .memory)) ∙ body-answers codes false (p .memory) v))
+    trace-headed p restL (commandsL codes) (commanding false (p .memory)) (head-run (p .memory)) (Opened ∷ bitAnswers 3) (head-answers (p .memory))
+    ∙ ap (λ (rest : List Answer). firstAnswer p ∷ Opened ∷ bitAnswers 3 ++ rest) (body-answers codes false (p .memory) v)

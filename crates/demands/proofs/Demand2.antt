@@ -5,7 +5,7 @@ use mathlib.Core.List.{List, [], _∷_, _++_, map}
 use Prim.Native.Nat.{ℕ, zero, suc, _+_, _≤_, _<_}
 use native.Mathlib.Omega.{arith}
 use lib.ListN.{length, take, drop, length-take, length-drop, take-append-drop}
-use Rattle.lines.specs.declared.Levels.{Levels}
+use Rattle.ground.specs.Sizes.{addresses}
 use Rattle.answers.specs.Answers.{Act}
 use Rattle.answers.specs.Answers.{Keep}
 use Rattle.answers.specs.declared.Answer.{Answer}
@@ -14,21 +14,22 @@ use Rattle.lines.specs.Samples.{levels}
 use Rattle.answers.specs.Answers.{act}
 use Rattle.port.specs.declared.Port.{Port}
 use Rattle.chip.specs.declared.Chip.{Chip}
-use Rattle.port.specs.Port.{moved}
 use Rattle.port.specs.Valid.{Nibbles}
 use Rattle.chip.specs.Valid.{Valid}
 use Rattle.driver.specs.Streams.{writeStream, readStream, commandStream}
-use Rattle.demands.specs.Events.{Event, samples, answers}
+use Rattle.demands.specs.Events.{Event, after, samples, answers}
+use Rattle.demands.specs.Accepted.{AcceptsWrite}
 use Rattle.demands.specs.Demand2.{StoredAt, ObeyedAt, storedBy, stores, dueStores, obeyedBy, obeys, dueCommands, lastAnswer, between, Writes, Reads, Commands, Demand2}
+use Rattle.demands.specs.Stopped.{firstAnswer, bitAnswers, nibbleAnswers}
 use Rattle.demands.proofs.Accepted.{accepted}
-use Rattle.demands.proofs.AcceptedLaws.{Fit, accepted-write, accepted-read, accepted-commands}
-use Rattle.demands.proofs.CommandLaws.{Defined, commandsAnswers, commandL, command-memory, stream-answers}
-use Rattle.demands.proofs.Demand3.{sets-whole, opened-plain, nibbles-plain, write-done, read-done}
-use Rattle.demands.proofs.Ports.{Sixteen, runP, trace, high, high-keeps, after-port, after-answers}
-use Rattle.demands.proofs.ReadLaws.{readL, readAnswers, read-answers, read-memory, offers-plain, offers-close}
-use Rattle.demands.proofs.SettingsLaws.{Plain, plain-settings, due-settings}
-use Rattle.demands.proofs.StreamLevels.{write-levels, read-levels, command-levels, write-sixteen, read-sixteen, command-sixteen}
-use Rattle.demands.proofs.TraceLaws.{bitAnswers, nibbleAnswers, write-answers}
+use Rattle.demands.proofs.AcceptedLaws.{Fit, accepted-read, accepted-commands}
+use Rattle.demands.proofs.CommandLaws.{Defined, commandsAnswers, commandL, command-leaves, stream-answers}
+use Rattle.demands.proofs.Demand3.{read-done}
+use Rattle.demands.proofs.Ports.{Sixteen, runP, trace, idle, high, first-keeps, after-port, after-answers}
+use Rattle.demands.proofs.ReadLaws.{readL, readAnswers, read-answers, read-leaves, offers-plain, offers-close}
+use Rattle.demands.proofs.SettingsLaws.{Plain, opened-plain, write-plain, plain-settings, due-settings}
+use Rattle.demands.proofs.StoppedLaws.{write-whole}
+use Rattle.demands.proofs.StreamLevels.{read-levels, command-levels, write-sixteen, read-sixteen, command-sixteen}
 
 -- ---- what is read off a list of answers
 
@@ -75,28 +76,20 @@ commands-close (code ∷ codes) before = commands-close codes _
 
 -- ---- a write
 
-pub write-answered : (c : Chip) (first : ℕ) (ns : List ℕ) (es : List Event) → Fit first ns → samples es ≡ writeStream first ns
-    → answers c es ≡ moved (c .port) high .answer ∷ Opened ∷ bitAnswers 9 ++ nibbleAnswers first ns
-write-answered c first ns es fit e =
-    after-answers c es (subst Sixteen (sym e) (write-sixteen first ns))
-    ∙ ap (trace (c .port)) (ap (map levels) e ∙ write-levels first ns)
-    ∙ write-answers (c .port) first ns (fit .inside) (fit .some) (fit .nibbles)
-
-writes : (c : Chip) (first : ℕ) (ns : List ℕ) (es : List Event) → Valid c → Fit first ns → samples es ≡ writeStream first ns
+writes : (c : Chip) (first : ℕ) (ns : List ℕ) (es : List Event) → Valid c → AcceptsWrite first ns → samples es ≡ writeStream first ns
     → Writes c first ns es
-writes c first ns es valid fit e =
+writes c first ns es valid accepts e =
+    let law = write-whole c first ns es valid accepts e in
     record {
-      memory = write-done c first ns es fit e ∙ sets-whole (c .port .memory) first ns (omega (arith, valid .port .size, fit .inside));
+      memory = ap (λ (p : Port). p .memory) (law .0);
       stored =
-          ap (stores 1) answered
-          ∙ stores-first (act (moved (c .port) high .answer)) 1 (stores 21 (nibbleAnswers first ns)) (high-keeps (c .port))
+          ap (stores 1) (law .1)
+          ∙ stores-first (act (firstAnswer (c .port))) 1 (stores 21 (nibbleAnswers first ns)) (first-keeps (c .port))
           ∙ nibbles-stores ns 21 first;
-      closed = ap (lastAnswer Nothing) answered ∙ nibbles-close ns first Taken;
-      settings = plain-settings c es (subst Sixteen (sym e) (write-sixteen first ns)) (subst Plain (sym answered) (opened-plain (c .port) 9 (nibbleAnswers first ns) (nibbles-plain first ns)));
+      closed = ap (lastAnswer Nothing) (law .1) ∙ nibbles-close ns first Taken;
+      settings =
+          plain-settings c es (subst Sixteen (sym e) (write-sixteen first ns)) (subst Plain (sym (law .1)) (write-plain (c .port) first ns));
     }
-  where
-    answered : answers c es ≡ moved (c .port) high .answer ∷ Opened ∷ bitAnswers 9 ++ nibbleAnswers first ns
-    answered = write-answered c first ns es fit e
 
 -- ---- a read
 
@@ -115,7 +108,7 @@ take-nibbles zero m v = tt
 take-nibbles (suc k) [] v = tt
 take-nibbles (suc k) (x ∷ m) v = (v .0, take-nibbles k m (v .1))
 
-module _ (c : Chip) (first count : ℕ) (es : List Event) (valid : Valid c) (ok : (0 < count) × (first + count ≤ 32))
+module _ (c : Chip) (first count : ℕ) (es : List Event) (valid : Valid c) (ok : (0 < count) × (first + count ≤ addresses))
     (e : samples es ≡ readStream first count) where
   abbrev part : List ℕ
   part = take count (drop first (c .port .memory))
@@ -144,16 +137,18 @@ module _ (c : Chip) (first count : ℕ) (es : List Event) (valid : Valid c) (ok 
   as-levels = ap (map levels) e ∙ read-levels first count
 
   pub read-answered : answers c es
-      ≡ moved (c .port) high .answer ∷ Opened ∷ bitAnswers 9 ++ readAnswers first (take count (drop first (c .port .memory)))
+      ≡ firstAnswer (c .port) ∷ Opened ∷ bitAnswers 9 ++ readAnswers first (take count (drop first (c .port .memory)))
   read-answered =
       after-answers c es small ∙ ap (trace (c .port)) (as-levels ∙ ap (readL first) (sym size))
-      ∙ read-answers (c .port) first part rest (fit .some) (fit .inside) parts
+      ∙ read-answers (c .port) first part rest fit parts
+
+  pub read-left : after c es .port ≡ idle (c .port .memory) high
+  read-left = after-port c es small ∙ ap (runP (c .port)) as-levels ∙ read-leaves (c .port) first count
 
   reads : Reads c first count es
   reads =
       record {
-        memory = ap (λ (p : Port). p .memory) (after-port c es small) ∙ ap (λ (ls : List Levels). runP (c .port) ls .memory) as-levels
-            ∙ read-memory (c .port) first count;
+        memory = ap (λ (p : Port). p .memory) read-left;
         settings =
             plain-settings c es small
             (subst Plain (sym read-answered) (opened-plain (c .port) 9 (readAnswers first part) (offers-plain first part)));
@@ -170,20 +165,22 @@ module _ (c : Chip) (codes : List ℕ) (es : List Event) (v : Defined codes) (e 
   sent : map levels (samples es) ≡ commandL codes
   sent = ap (map levels) e ∙ command-levels codes
 
-  pub command-answered : answers c es ≡ moved (c .port) high .answer ∷ Opened ∷ bitAnswers 3 ++ commandsAnswers codes
+  pub command-left : after c es .port ≡ idle (c .port .memory) high
+  command-left = after-port c es few ∙ ap (runP (c .port)) sent ∙ command-leaves (c .port) codes v
+
+  pub command-answered : answers c es ≡ firstAnswer (c .port) ∷ Opened ∷ bitAnswers 3 ++ commandsAnswers codes
   command-answered = after-answers c es few ∙ ap (trace (c .port)) sent ∙ stream-answers (c .port) codes v
 
   due : obeys 1 (answers c es) ≡ dueCommands 26 codes
   due =
       ap (obeys 1) command-answered
-      ∙ obeys-first (act (moved (c .port) high .answer)) 1 (obeys 9 (commandsAnswers codes)) (high-keeps (c .port))
+      ∙ obeys-first (act (firstAnswer (c .port))) 1 (obeys 9 (commandsAnswers codes)) (first-keeps (c .port))
       ∙ commands-obeys codes 9
 
   commands : Commands c codes es
   commands =
       record {
-        memory = ap (λ (p : Port). p .memory) (after-port c es few) ∙ ap (λ (ls : List Levels). runP (c .port) ls .memory) sent
-            ∙ command-memory (c .port) codes v;
+        memory = ap (λ (p : Port). p .memory) command-left;
         obeyed = due;
         settings = due-settings c es few ∙ ap (λ (d : List ObeyedAt). between d 0 es (c .settings)) due;
         closed = ap (lastAnswer Nothing) command-answered ∙ commands-close codes Taken;
@@ -195,7 +192,7 @@ pub demand2 : Demand2
 demand2 =
     record {
       accepted = accepted;
-      writes = λ c first ns es valid accepts e. writes c first ns es valid (accepted-write first ns accepts) e;
+      writes = writes;
       reads = λ c first count es valid accepts e. reads c first count es valid (accepted-read first count accepts) e;
       commands = λ c codes es valid accepts e. commands c codes es (accepted-commands codes accepts) e;
     }

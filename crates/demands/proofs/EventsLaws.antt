@@ -1,13 +1,20 @@
--- Ticks in a row come to one advance by as many, whatever follows. Assumes nothing.
+-- A valid chip stays valid, whatever happens; and ticks in a row come to one advance by as many, whatever follows. Assumes nothing.
 use mathlib.Core.Path.{_≡_, refl}
-use mathlib.Core.List.{List, _++_}
+use mathlib.Core.List.{List, [], _∷_, _++_}
 use Prim.Native.Nat.{ℕ, zero, suc, _+_}
 use native.Mathlib.Omega.{arith}
 use lib.ListN.{replicate}
 use Rattle.ticks.specs.Ticks as rules
 use Rattle.chip.specs.declared.Chip.{Chip}
 use Rattle.chip.specs.Chip.{ticked, advanced}
-use Rattle.demands.specs.Events.{Event, tick, after, samples, ticks, answers, notes}
+use Rattle.chip.specs.Valid.{Valid}
+use Rattle.chip.proofs.ValidLaws.{stepped-valid, ticked-valid}
+use Rattle.demands.specs.Events.{Event, sample, tick, happened, after, samples, ticks, answers, notes}
+
+pub after-valid : (c : Chip) (es : List Event) → Valid c → Valid (after c es)
+after-valid c [] v = v
+after-valid c (sample s ∷ es) v = after-valid (happened c (sample s)) es (stepped-valid c s v)
+after-valid c (tick ∷ es) v = after-valid (happened c tick) es (ticked-valid c v)
 
 pub after-pause : (n : ℕ) (c : Chip) (es : List Event) → after c (replicate n tick ++ es) ≡ after (advanced n c) es
 unfolding rules.advanced

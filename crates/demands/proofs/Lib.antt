@@ -13,7 +13,7 @@ pub mod ReadLaws
 pub mod RecordLaws
 pub mod Records
 pub mod RehearsalLaws
+pub mod SentLaws
 pub mod SettingsLaws
+pub mod StoppedLaws
 pub mod StreamLevels
-pub mod TraceLaws
-pub mod WriteLaws

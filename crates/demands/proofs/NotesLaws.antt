@@ -9,11 +9,13 @@ use lib.ListN.{length}
 use borrow.Author.Tests.{le-ltb, eq-eqb, ne-eqb}
 use Rattle.ground.specs.Bits.{bitAt, bitNumber}
 use Rattle.ground.specs.Places.{lowest, somewhere}
+use Rattle.ground.specs.Sizes.{addresses}
 use Rattle.ground.specs.Values.{values, agree}
 use Rattle.port.specs.Valid.{Nibbles}
 use Rattle.driver.specs.Refusals.{notedFault, miscounted, decodeAnswer}
 use Rattle.driver.specs.Streams.{nibbleOf, decoded}
 use Rattle.demands.specs.Events.{ReadsAs}
+use Rattle.demands.proofs.AcceptedLaws.{Fit}
 
 abbrev pub bitsOf : List ℕ → List ℕ
 bitsOf [] = []
@@ -48,9 +50,12 @@ bits-faultless : (ns : List ℕ) → lowest notedFault (bitsOf ns) ≡ length (b
 bits-faultless [] = refl
 bits-faultless (n ∷ ns) = simp (bit-faultless, bits-faultless ns)
 
-pub bits-read : (ns : List ℕ) → 0 < length ns → length ns ≤ 32 → Nibbles ns → ReadsAs (bitsOf ns) ns
+pub bits-read : {first : ℕ} (ns : List ℕ) → Fit first ns → ReadsAs (bitsOf ns) ns
 unfolding decodeAnswer miscounted
-bits-read ns some most v =
+bits-read ns fit =
+    let v = fit .nibbles in
+    let some = fit .some in
+    let most : length ns ≤ addresses = omega (arith, fit .inside) in
     let size = bits-count ns in
     let nowhere : somewhere notedFault (bitsOf ns) ≡ false =
     le-ltb (lowest notedFault (bitsOf ns)) (length (bitsOf ns)) (omega (arith, bits-faultless ns)) in

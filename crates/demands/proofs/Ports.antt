@@ -1,12 +1,12 @@
 -- A port runs by itself: ticks and settings do not reach it. So events over samples below 16 come to a run of the port
 -- over levels. Assumes nothing.
-use mathlib.Core.Path.{_≡_, _∙_, refl, ap}
+use mathlib.Core.Path.{_≡_, _∙_, refl, ap, ap₂}
 use mathlib.Core.Bool.{Bool, true, false, cond}
 use mathlib.Core.List.{List, [], _∷_, _++_, map}
-use Prim.Native.Nat.{ℕ, zero, suc, _≤_}
+use Prim.Native.Nat.{ℕ, _≤_}
 use lib.Dec.{eqb}
-use lib.ListN.{take}
 use borrow.Author.Tests.{le-ltb}
+use Rattle.ground.proofs.ChoiceLaws.{either}
 use Rattle.lines.specs.declared.Levels.{Levels}
 use Rattle.phases.specs.declared.Phase.the-variants.{Idle}
 use Rattle.phases.specs.declared.Line.the-variants.{Released}
@@ -23,13 +23,14 @@ use Rattle.chip.specs.declared.Chip.{Chip}
 use Rattle.port.specs.Port.{memoryAfter, framedBy, moved}
 use Rattle.chip.specs.Chip.{stepped}
 use Rattle.demands.specs.Events.{Event, sample, tick, happened, after, samples, answers}
+use Rattle.demands.specs.Stopped.{firstAnswer}
 
 -- every sample is one of the sixteen
 abbrev pub Sixteen : List ℕ → Type 0
 Sixteen [] = Unit {0}
 Sixteen (s ∷ ss) = (s ≤ 15) × Sixteen ss
 
--- the port after levels, what each was answered, and what the host notes
+-- the port after levels, and what each was answered
 abbrev pub runP : Port → List Levels → Port
 runP p [] = p
 runP p (l ∷ ls) = runP (moved p l .port) ls
@@ -78,9 +79,7 @@ high = record { cs = true; wr = true; rd = true; bit = true }
 
 -- no answer to it acts
 closing-act : (before done : Bool) → act (cond before Nothing (cond done Closed Dropped)) ≡ Keep
-closing-act true done = refl
-closing-act false true = refl
-closing-act false false = refl
+closing-act before done = either (λ a. act a ≡ Keep) before refl (either (λ a. act a ≡ Keep) done refl refl)
 
 module _ (p : Port) where
   by-before : (before : Bool) (n : ℕ)
@@ -94,16 +93,29 @@ module _ (p : Port) where
   unfolding moved framedBy memoryAfter
   high-idles = simp (by-before (p .levels .cs), closing-act)
 
-  pub high-answer : moved p high .answer ≡ cond (p .levels .cs) Nothing (cond (eqb (unfinished (p .phase)) 0) Closed Dropped)
+  high-answer : moved p high .answer ≡ firstAnswer p
   unfolding moved framedBy
   high-answer = simp (by-before (p .levels .cs))
 
-  -- and what it is answered changes neither memory nor settings
-  pub high-keeps : act (moved p high .answer) ≡ Keep
-  unfolding moved framedBy
-  high-keeps = simp (by-before (p .levels .cs), closing-act)
+  -- and this changes neither memory nor settings
+  pub first-keeps : act (firstAnswer p) ≡ Keep
+  first-keeps = closing-act (p .levels .cs) (eqb (unfinished (p .phase)) 0)
 
-pub trace-take : (p : Port) (k : ℕ) (ls : List Levels) → trace p (take k ls) ≡ take k (trace p ls)
-trace-take p zero ls = refl
-trace-take p (suc k) [] = refl
-trace-take p (suc k) (l ∷ ls) = ap (λ (rest : List Answer). moved p l .answer ∷ rest) (trace-take (moved p l .port) k ls)
+  -- a stream that begins with it goes on as from no frame
+  pub run-opened : (ls : List Levels) → runP p (high ∷ ls) ≡ runP (idle (p .memory) high) ls
+  run-opened ls = ap (λ (q : Port). runP q ls) high-idles
+
+  pub trace-opened : (ls : List Levels) → trace p (high ∷ ls) ≡ firstAnswer p ∷ trace (idle (p .memory) high) ls
+  trace-opened ls = ap₂ (λ (a : Answer) (q : Port). a ∷ trace q ls) high-answer high-idles
+
+  -- a head whose end is known, and then a body
+  module _ (head body : List Levels) (q : Port) (ran : runP (idle (p .memory) high) head ≡ q) where
+    pub run-headed : runP p (high ∷ head ++ body) ≡ runP q body
+    run-headed = run-opened (head ++ body) ∙ run-append (idle (p .memory) high) head body ∙ ap (λ (x : Port). runP x body) ran
+
+    pub trace-headed : (done : List Answer) → trace (idle (p .memory) high) head ≡ done
+        → trace p (high ∷ head ++ body) ≡ firstAnswer p ∷ done ++ trace q body
+    trace-headed done told =
+        trace-opened (head ++ body)
+        ∙ ap (λ (answers : List Answer). firstAnswer p ∷ answers)
+        (trace-append (idle (p .memory) high) head body ∙ ap₂ (λ (answers : List Answer) (x : Port). answers ++ trace x body) told ran)

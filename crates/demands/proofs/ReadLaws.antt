@@ -3,12 +3,13 @@
 use mathlib.Core.Path.{_≡_, _∙_, refl, sym, ap, ap₂}
 use mathlib.Core.Bool.{Bool, true, false, cond, not, _&&_}
 use mathlib.Core.List.{List, [], _∷_, _++_, map}
-use Prim.Native.Nat.{ℕ, zero, suc, _+_, _%_, _≤_, _<_}
+use Prim.Native.Nat.{ℕ, zero, suc, _+_, _≤_}
 use native.Mathlib.Omega.{arith}
 use lib.Dec.{eqb}
 use lib.ListN.{length, getD, drop}
 use lib.Seq.{getD-drop, drop-drop}
 use Rattle.ground.specs.Bits.{bitAt}
+use Rattle.ground.specs.Sizes.{addresses}
 use Rattle.ground.specs.Values.{values, agree}
 use Rattle.lines.specs.declared.Levels.{Levels}
 use Rattle.phases.specs.declared.Phase.the-variants.{Reading}
@@ -17,19 +18,20 @@ use Rattle.phases.specs.declared.Line.the-variants.{Released, Driven}
 use Rattle.answers.specs.declared.Answer.{Answer}
 use Rattle.answers.specs.declared.Answer.the-variants.{Nothing, Opened, Closed, Offered}
 use Rattle.lines.specs.Samples.{levels}
-use Rattle.frames.specs.Frames.{next, frame, closed, taken, identTaken, identified, readToTaken, offered, readOffered}
+use Rattle.frames.specs.Frames.{next, reached, frame, closed, taken, identTaken, identified, readToTaken, offered, readOffered}
 use Rattle.port.specs.declared.Port.{Port}
 use Rattle.chip.specs.declared.Chip.{Chip}
 use Rattle.port.specs.Port.{memoryAfter, framedBy, moved}
 use Rattle.driver.specs.Streams.{readId, addressBits}
 use Rattle.demands.specs.Events.{Event, sample, tick, happened, samples, dataNumber, notes}
 use Rattle.demands.specs.Demand2.{lastAnswer}
-use Rattle.demands.proofs.Ports.{Sixteen, runP, trace, trace-append, run-append, idle, high, high-idles, stepped-moved}
+use Rattle.demands.specs.Stopped.{firstAnswer, bitAnswers}
+use Rattle.demands.proofs.AcceptedLaws.{Fit}
+use Rattle.demands.proofs.Ports.{Sixteen, runP, run-headed, trace, trace-headed, idle, high, high-idles, stepped-moved}
 use Rattle.demands.proofs.NotesLaws.{bitsOf}
 use Rattle.demands.proofs.StreamLevels.{up, bitsL, headL, readsL}
 use Rattle.demands.proofs.SettingsLaws.{Plain}
-use Rattle.demands.proofs.TraceLaws.{bitAnswers}
-use Rattle.demands.proofs.WriteLaws.{sixBits, address-bits, next-mod}
+use Rattle.demands.proofs.SentLaws.{addressSent, address-sent, reached-small, reached-next}
 
 -- ---- what the host notes, by levels
 
@@ -61,10 +63,6 @@ after-notes c (sample s ∷ es) v =
 abbrev pub offering : Bool → Line → List ℕ → ℕ → Port
 offering b line m a = record { memory = m; levels = up b; phase = Reading a 0; line = line }
 
--- the address that the bits of an address make
-abbrev addressed : ℕ → ℕ
-addressed first = sixBits (bitAt 5 first) (bitAt 4 first) (bitAt 3 first) (bitAt 2 first) (bitAt 1 first) (bitAt 0 first)
-
 abbrev restL : ℕ → List Levels
 restL first = up true ∷ bitsL (readId ++ addressBits first)
 
@@ -72,8 +70,7 @@ abbrev pub readL : ℕ → ℕ → List Levels
 readL first n = headL (readId ++ addressBits first) ++ readsL n
 
 reached-by : (m : List ℕ) (first : ℕ)
-    → runP (idle m high) (restL first)
-    ≡ offering (bitAt 0 first) Released m (addressed first)
+    → runP (idle m high) (restL first) ≡ offering (bitAt 0 first) Released m (addressSent first)
 unfolding moved framedBy frame taken identTaken identified readToTaken memoryAfter
 reached-by m first = refl
 
@@ -86,14 +83,13 @@ not-noted : (before : Bool) (x y : List ℕ) → cond (not before && false) x y 
 not-noted true x y = refl
 not-noted false x y = refl
 
+notes-opened : (p : Port) (ls : List Levels) → notesL p (high ∷ ls) ≡ notesL (idle (p .memory) high) ls
+notes-opened p ls = not-noted (p .levels .rd) _ _ ∙ ap (λ (q : Port). notesL q ls) (high-idles p)
+
 head-notes : (m : List ℕ) (first : ℕ) (ls : List Levels)
     → notesL (idle m high) (restL first ++ ls) ≡ notesL (runP (idle m high) (restL first)) ls
 unfolding moved framedBy frame taken identTaken identified readToTaken memoryAfter
 head-notes m first ls = refl
-
-same-address : (first : ℕ) → first < 32
-    → addressed first ≡ first % 32
-same-address first h = address-bits first h ∙ omega arith
 
 -- ---- the nibbles
 
@@ -122,33 +118,33 @@ module _ (b : Bool) (line : Line) (m : List ℕ) (a n : ℕ) where
   nibble-offers = refl
 
 -- the memory from a on begins with vs
-reads-body : (vs rest : List ℕ) (b : Bool) (line : Line) (m : List ℕ) (a : ℕ) → a + length vs ≤ 32 → drop a m ≡ vs ++ rest
-    → (notesL (offering b line m (a % 32)) (readsL (length vs)) ≡ bitsOf vs)
-    × (trace (offering b line m (a % 32)) (readsL (length vs)) ≡ readAnswers a vs)
+reads-body : (vs rest : List ℕ) (b : Bool) (line : Line) (m : List ℕ) (a : ℕ) → a + length vs ≤ addresses → drop a m ≡ vs ++ rest
+    → (notesL (offering b line m (reached a)) (readsL (length vs)) ≡ bitsOf vs)
+    × (trace (offering b line m (reached a)) (readsL (length vs)) ≡ readAnswers a vs)
 unfolding moved framedBy frame closed
 reads-body [] rest b line m a h e = (refl, refl)
 reads-body (n ∷ vs) rest b line m a h e =
-    let others = reads-body vs rest true (driven m (a % 32)) m (suc a) (omega arith) there in (
-      nibble-notes b line m (a % 32) (length vs)
+    let others = reads-body vs rest true (driven m (reached a)) m (suc a) (omega arith) there in (
+      nibble-notes b line m (reached a) (length vs)
           ∙ ap₂ (λ (x : ℕ) (noted : List ℕ). bitsOf (x ∷ []) ++ noted) at
-          (ap (λ (x : ℕ). notesL (offering true (driven m (a % 32)) m x) (readsL (length vs))) (next-mod a) ∙ others .0),
-      nibble-offers b line m (a % 32) (length vs)
-          ∙ ap₂ (λ (x y : ℕ). nibbleOffers x y ++ trace (offering true (driven m (a % 32)) m (next (a % 32))) (readsL (length vs))) near at
+          (ap (λ (x : ℕ). notesL (offering true (driven m (reached a)) m x) (readsL (length vs))) (reached-next a) ∙ others .0),
+      nibble-offers b line m (reached a) (length vs)
+          ∙ ap₂ (λ (x y : ℕ). nibbleOffers x y ++ trace (offering true (driven m (reached a)) m (next (reached a))) (readsL (length vs))) near at
           ∙ ap (λ (answers : List Answer). nibbleOffers a n ++ answers)
-          (ap (λ (x : ℕ). trace (offering true (driven m (a % 32)) m x) (readsL (length vs))) (next-mod a)
+          (ap (λ (x : ℕ). trace (offering true (driven m (reached a)) m x) (readsL (length vs))) (reached-next a)
           ∙ others .1 ∙ ap (λ (x : ℕ). readAnswers x vs) one),
     )
   where
-    near : a % 32 ≡ a
-    near = omega arith
+    near : reached a ≡ a
+    near = reached-small a (omega arith)
 
-    small : a % 32 ≡ a + 0
+    small : reached a ≡ a + 0
     small = omega arith
 
     one : suc a ≡ a + 1
     one = omega arith
 
-    at : getD m (a % 32) 0 ≡ n
+    at : getD m (reached a) 0 ≡ n
     at = ap (λ (x : ℕ). getD m x 0) small ∙ sym (getD-drop a m 0 0) ∙ ap (λ (l : List ℕ). getD l 0 0) e
 
     there : drop (suc a) m ≡ vs ++ rest
@@ -165,41 +161,34 @@ offers-close at (v ∷ vs) before = offers-close (at + 1) vs _
 
 -- ---- the whole stream, from any port
 
-module _ (p : Port) (first : ℕ) (vs rest : List ℕ) (some : 0 < length vs) (inside : first + length vs ≤ 32)
-    (e : drop first (p .memory) ≡ vs ++ rest) where
+module _ (p : Port) (first : ℕ) (vs rest : List ℕ) (fit : Fit first vs) (e : drop first (p .memory) ≡ vs ++ rest) where
   abbrev body : Port
-  body = offering (bitAt 0 first) Released (p .memory) (first % 32)
+  body = offering (bitAt 0 first) Released (p .memory) (reached first)
 
   reached-body : runP (idle (p .memory) high) (restL first) ≡ body
-  reached-body = reached-by (p .memory) first ∙ ap (offering (bitAt 0 first) Released (p .memory)) (same-address first (omega arith))
+  reached-body = reached-by (p .memory) first ∙ ap (offering (bitAt 0 first) Released (p .memory)) (address-sent first (omega (arith, fit .some, fit .inside)))
 
   pub read-noted : notesL p (readL first (length vs)) ≡ bitsOf vs
   read-noted =
-      not-noted (p .levels .rd) _ _
-      ∙ ap (λ (q : Port). notesL q (restL first ++ readsL (length vs))) (high-idles p)
+      notes-opened p (restL first ++ readsL (length vs))
       ∙ head-notes (p .memory) first (readsL (length vs))
       ∙ ap (λ (q : Port). notesL q (readsL (length vs))) reached-body
-      ∙ reads-body vs rest (bitAt 0 first) Released (p .memory) first inside e .0
+      ∙ reads-body vs rest (bitAt 0 first) Released (p .memory) first (fit .inside) e .0
 
-  pub read-answers : trace p (readL first (length vs)) ≡ moved p high .answer ∷ Opened ∷ bitAnswers 9 ++ readAnswers first vs
+  pub read-answers : trace p (readL first (length vs)) ≡ firstAnswer p ∷ Opened ∷ bitAnswers 9 ++ readAnswers first vs
   read-answers =
-      ap (λ (answers : List Answer). moved p high .answer ∷ answers)
-      (ap (λ (q : Port). trace q (restL first ++ readsL (length vs))) (high-idles p)
-      ∙ trace-append (idle (p .memory) high) (restL first) (readsL (length vs))
-      ∙ ap (λ (done : List Answer). done ++ trace (runP (idle (p .memory) high) (restL first)) (readsL (length vs)))
-      (head-trace (p .memory) first)
-      ∙ ap (λ (answers : List Answer). Opened ∷ bitAnswers 9 ++ answers)
-      (ap (λ (q : Port). trace q (readsL (length vs))) reached-body
-      ∙ reads-body vs rest (bitAt 0 first) Released (p .memory) first inside e .1))
+      trace-headed p (restL first) (readsL (length vs)) body reached-body (Opened ∷ bitAnswers 9) (head-trace (p .memory) first)
+      ∙ ap (λ (answers : List Answer). firstAnswer p ∷ Opened ∷ bitAnswers 9 ++ answers)
+      (reads-body vs rest (bitAt 0 first) Released (p .memory) first (fit .inside) e .1)
 
-body-memory : (n : ℕ) (b : Bool) (line : Line) (m : List ℕ) (a : ℕ) → runP (offering b line m a) (readsL n) .memory ≡ m
+-- ---- what it leaves
+
+reads-leave : (n : ℕ) (b : Bool) (line : Line) (m : List ℕ) (a : ℕ) → runP (offering b line m a) (readsL n) ≡ idle m high
 unfolding moved framedBy frame closed offered readOffered memoryAfter
-body-memory zero b line m a = refl
-body-memory (suc n) b line m a = body-memory n true (driven m a) m (next a)
+reads-leave zero b line m a = refl
+reads-leave (suc n) b line m a = reads-leave n true (driven m a) m (next a)
 
-pub read-memory : (p : Port) (first n : ℕ) → runP p (readL first n) .memory ≡ p .memory
-read-memory p first n =
-    ap (λ (q : Port). runP q (restL first ++ readsL n) .memory) (high-idles p)
-    ∙ ap (λ (q : Port). q .memory) (run-append (idle (p .memory) high) (restL first) (readsL n))
-    ∙ ap (λ (q : Port). runP q (readsL n) .memory) (reached-by (p .memory) first)
-    ∙ body-memory n (bitAt 0 first) Released (p .memory) _
+pub read-leaves : (p : Port) (first n : ℕ) → runP p (readL first n) ≡ idle (p .memory) high
+read-leaves p first n =
+    run-headed p (restL first) (readsL n) _ (reached-by (p .memory) first)
+    ∙ reads-leave n (bitAt 0 first) Released (p .memory) (addressSent first)

@@ -8,15 +8,14 @@ use native.Mathlib.Nat.{add-zero}
 use lib.Dec.{eqb}
 use lib.ListN.{take, drop, replicate}
 use Rattle.ground.specs.Bits.{bitAt}
+use Rattle.ground.specs.Sizes.{addresses}
 use Rattle.settings.specs.declared.Settings.{Settings}
 use Rattle.ticks.specs.Ticks as ticks
-use Rattle.lines.specs.declared.Levels.{Levels}
 use Rattle.answers.specs.declared.Answer.{Answer}
 use Rattle.answers.specs.declared.Answer.the-variants.{Nothing, Opened, Closed, Dropped, Stored, Obeyed}
-use Rattle.lines.specs.Samples.{levels}
 use Rattle.phases.specs.Phases.{unfinished}
 use Rattle.chip.specs.declared.Chip.{Chip}
-use Rattle.port.specs.Port.{moved}
+use Rattle.port.specs.declared.Port.{Port}
 use Rattle.chip.specs.Chip.{advanced}
 use Rattle.chip.specs.Valid.{Valid}
 use Rattle.chip.proofs.ValidLaws.{advanced-valid}
@@ -28,12 +27,12 @@ use Rattle.state.proofs.BytesLaws.{memory-bytes, port-bytes, settings-bytes}
 use Rattle.demands.specs.Events.{Event, after, answers, notes}
 use Rattle.demands.specs.Calls.{Call, afterCalls, eventsOf, sent, passed, returns, noted}
 use Rattle.demands.specs.Records.{openingReturns, bitReturns, nibbleReturns, bitOffered, nibblesOffered, commandReturns, noFrame}
-use Rattle.demands.proofs.CallsLaws.{after-valid, cs-byte, count-byte, advance-leaves, calls-leave, calls-tell, calls-note}
+use Rattle.demands.specs.Stopped.{firstAnswer, bitAnswers, nibbleAnswers}
+use Rattle.demands.proofs.CallsLaws.{cs-byte, count-byte, advance-leaves, calls-leave, calls-tell, calls-note}
 use Rattle.demands.proofs.CommandLaws.{commandsAnswers}
-use Rattle.demands.proofs.Ports.{Sixteen, runP, high, high-answer, after-port}
+use Rattle.demands.proofs.EventsLaws.{after-valid}
+use Rattle.demands.proofs.Ports.{Sixteen, idle, high}
 use Rattle.demands.proofs.ReadLaws.{readAnswers}
-use Rattle.demands.proofs.StreamLevels.{EndsIdle}
-use Rattle.demands.proofs.TraceLaws.{bitAnswers, nibbleAnswers}
 
 -- ---- answers as numbers
 
@@ -79,7 +78,7 @@ module _ (b : List ℕ) (valid : recordValid b ≡ true) where
   v : Valid c
   v = valid-chip b valid
 
-  pub memory-said : c .port .memory ≡ take 32 b
+  pub memory-said : c .port .memory ≡ take addresses b
   unfolding chipOf
   memory-said = refl
 
@@ -87,11 +86,10 @@ module _ (b : List ℕ) (valid : recordValid b ≡ true) where
   unfolding chipOf
   settings-said = refl
 
-  opening-told : answerCode (moved (c .port) high .answer) ∷ 1 ∷ [] ≡ openingReturns b
+  opening-told : answerCode (firstAnswer (c .port)) ∷ 1 ∷ [] ≡ openingReturns b
   opening-told =
       ap (λ (told : ℕ). told ∷ 1 ∷ [])
-      (ap answerCode (high-answer (c .port))
-      ∙ closing-told (c .port .levels .cs) (eqb (unfinished (c .port .phase)) 0)
+      (closing-told (c .port .levels .cs) (eqb (unfinished (c .port .phase)) 0)
       ∙ sym (ap₂ (λ (cs : Bool) (count : ℕ). cond cs 0 (cond (eqb count 0) 2 3)) (cs-byte c v) (count-byte c v)))
       ∙ ap openingReturns (trip b valid)
 
@@ -105,8 +103,8 @@ module _ (b : List ℕ) (valid : recordValid b ≡ true) where
     pub notes-said : noted b calls ≡ notes c es
     notes-said = ap (λ (l : List ℕ). noted l calls) (sym (trip b valid)) ∙ calls-note c calls v
 
-    pub memory-left : (m : List ℕ) → after c es .port .memory ≡ m → take 32 (afterCalls b calls) ≡ m
-    memory-left m e = ap (take 32) leaves ∙ memory-bytes (after c es) (after-valid c es v .port .size) ∙ e
+    pub memory-left : (m : List ℕ) → after c es .port .memory ≡ m → take addresses (afterCalls b calls) ≡ m
+    memory-left m e = ap (take addresses) leaves ∙ memory-bytes (after c es) (after-valid c es v .port .size) ∙ e
 
     pub settings-left : (s : Settings) → after c es .settings ≡ s → drop 40 (afterCalls b calls) ≡ settingsBytes s ++ replicate 6 0
     settings-left s e =
@@ -120,18 +118,15 @@ module _ (b : List ℕ) (valid : recordValid b ≡ true) where
         ∙ sym (settings-bytes (advanced (passed calls) c) (advanced-valid (passed calls) c v .port .size))
         ∙ ap (drop 40) (sym (advance-leaves c v (passed calls)) ∙ ap (λ (l : List ℕ). advanceBytes l (passed calls)) (trip b valid))
 
-    module _ (small : Sixteen (sent calls)) where
-      pub port-left : (m : List ℕ) (ls : List Levels) → map levels (sent calls) ≡ ls → EndsIdle ls → after c es .port .memory ≡ m
-          → take 40 (afterCalls b calls) ≡ m ++ noFrame
-      port-left m ls e ends kept =
-          let same : after c es .port ≡ runP (c .port) ls = after-port c es small ∙ ap (runP (c .port)) e in
-          ap (take 40) leaves ∙ port-bytes (after c es) (after-valid c es v .port .size)
-          ∙ ap₂ _++_ kept (ap frameBytes (same ∙ ends (c .port)))
+    pub port-left : (m : List ℕ) → after c es .port ≡ idle m high → take 40 (afterCalls b calls) ≡ m ++ noFrame
+    port-left m e =
+        ap (take 40) leaves ∙ port-bytes (after c es) (after-valid c es v .port .size)
+        ∙ ap (λ (p : Port). p .memory ++ frameBytes p) e
 
-      pub told : (bits : ℕ) (rest : List Answer) (numbers : List ℕ) → map answerCode rest ≡ numbers
-          → answers c es ≡ moved (c .port) high .answer ∷ Opened ∷ bitAnswers bits ++ rest
-          → returns b calls ≡ openingReturns b ++ bitReturns bits ++ numbers
-      unfolding answerCode
-      told bits rest numbers n e =
-          ap (λ (l : List ℕ). returns l calls) (sym (trip b valid)) ∙ calls-tell c calls v small ∙ ap (map answerCode) e
-          ∙ ap₂ _++_ opening-told (bits-told bits rest ∙ ap (λ (l : List ℕ). bitReturns bits ++ l) n)
+    pub told : Sixteen (sent calls) → (bits : ℕ) (rest : List Answer) (numbers : List ℕ) → map answerCode rest ≡ numbers
+        → answers c es ≡ firstAnswer (c .port) ∷ Opened ∷ bitAnswers bits ++ rest
+        → returns b calls ≡ openingReturns b ++ bitReturns bits ++ numbers
+    unfolding answerCode
+    told small bits rest numbers n e =
+        ap (λ (l : List ℕ). returns l calls) (sym (trip b valid)) ∙ calls-tell c calls v small ∙ ap (map answerCode) e
+        ∙ ap₂ _++_ opening-told (bits-told bits rest ∙ ap (λ (l : List ℕ). bitReturns bits ++ l) n)

@@ -2,11 +2,11 @@
 -- Assumes nothing.
 use mathlib.Core.Path.{_≡_, _∙_, sym, ap, subst}
 use mathlib.Core.Bool.{true}
-use mathlib.Core.List.{List, map}
+use mathlib.Core.List.{List, _++_}
 use Prim.Native.Nat.{ℕ}
 use lib.ListN.{length, take, drop}
 use lib.Seq.{paste}
-use Rattle.lines.specs.Samples.{levels}
+use Rattle.ground.specs.Sizes.{addresses}
 use Rattle.chip.specs.Valid.{Valid}
 use Rattle.state.specs.Record.{recordOf, recordValid, chipOf}
 use Rattle.state.proofs.ChipLaws.{valid-chip, chip-valid}
@@ -16,18 +16,20 @@ use Rattle.demands.specs.Accepted.{AcceptsWrite, AcceptsRead, AcceptsCom
 use Rattle.demands.specs.Events.{after, notes, ReadsAs}
 use Rattle.demands.specs.Demand2.{dueCommands, between, Writes, Reads, Commands}
 use Rattle.demands.specs.Demand3.{completed, Survives}
+use Rattle.demands.specs.Stopped.{nibbleAnswers}
 use Rattle.demands.specs.Calls.{Call, afterCalls, eventsOf, sent, passed, noted, CallsKeepValid}
-use Rattle.demands.specs.Records.{nibblesOffered, CallsWrite, CallsRead, CallsCommand, Demand2OfRecords, Demand3OfRecords}
-use Rattle.demands.proofs.AcceptedLaws.{accepted-write, accepted-read, accepted-commands}
-use Rattle.demands.proofs.CallsLaws.{after-valid, calls-leave, calls-note}
+use Rattle.demands.specs.Records.{nibblesOffered, noFrame, CallsWrite, CallsRead, CallsCommand, Demand2OfRecords, Demand3OfRecords}
+use Rattle.demands.proofs.AcceptedLaws.{accepted-read, accepted-commands}
+use Rattle.demands.proofs.CallsLaws.{calls-leave, calls-note}
 use Rattle.demands.proofs.CommandLaws.{commandsAnswers}
-use Rattle.demands.proofs.Demand2.{demand2, write-answered, read-answered, command-answered}
+use Rattle.demands.proofs.Demand2.{demand2, read-left, read-answered, command-left, command-answered}
 use Rattle.demands.proofs.Demand3.{demand3}
+use Rattle.demands.proofs.EventsLaws.{after-valid}
 use Rattle.demands.proofs.Ports.{Sixteen}
 use Rattle.demands.proofs.ReadLaws.{readAnswers}
 use Rattle.demands.proofs.RecordLaws.{nibbles-told, offers-told, commands-told, memory-said, settings-said, leaves, notes-said, memory-left, settings-left, ticks-left, port-left, told}
-use Rattle.demands.proofs.StreamLevels.{write-levels, read-levels, command-levels, write-sixteen, read-sixteen, command-sixteen, nibbles-idle, reads-idle, commands-idle}
-use Rattle.demands.proofs.TraceLaws.{nibbleAnswers}
+use Rattle.demands.proofs.StoppedLaws.{write-whole}
+use Rattle.demands.proofs.StreamLevels.{write-sixteen, read-sixteen, command-sixteen}
 
 -- ---- any calls
 
@@ -42,15 +44,12 @@ writes : (b : List ℕ) (first : ℕ) (ns : List ℕ) (calls : List Call) → re
     → sent calls ≡ writeStream first ns → CallsWrite b first ns calls
 writes b first ns calls valid accepts e =
     let done : Writes (chipOf b) first ns (eventsOf calls) = demand2 .writes (chipOf b) first ns (eventsOf calls) (valid-chip b valid) accepts e in
-    let small = subst Sixteen (sym e) (write-sixteen first ns) in
+    let law = write-whole (chipOf b) first ns (eventsOf calls) (valid-chip b valid) accepts e in
     record {
-      port =
-          port-left b valid calls small _ _ (ap (map levels) e ∙ write-levels first ns) (λ p. nibbles-idle ns _)
-          (done .memory ∙ ap (λ (m : List ℕ). paste m first ns (length ns)) (memory-said b valid));
+      port = port-left b valid calls _ (law .0) ∙ ap (λ (m : List ℕ). paste m first ns (length ns) ++ noFrame) (memory-said b valid);
       settings = ticks-left b valid calls (done .settings);
       returned =
-          told b valid calls small 9 (nibbleAnswers first ns) _ (nibbles-told first ns)
-          (write-answered (chipOf b) first ns (eventsOf calls) (accepted-write first ns accepts) e);
+          told b valid calls (subst Sixteen (sym e) (write-sixteen first ns)) 9 (nibbleAnswers first ns) _ (nibbles-told first ns) (law .1);
     }
 
 reads : (b : List ℕ) (first count : ℕ) (calls : List Call) → recordValid b ≡ true → AcceptsRead first count
@@ -58,19 +57,19 @@ reads : (b : List ℕ) (first count : ℕ) (calls : List Call) → recordValid b
 reads b first count calls valid accepts e =
     let v = valid-chip b valid in
     let done : Reads (chipOf b) first count (eventsOf calls) = demand2 .reads (chipOf b) first count (eventsOf calls) v accepts e in
-    let small = subst Sixteen (sym e) (read-sixteen first count) in
+    let ok = accepted-read first count accepts in
     let said = memory-said b valid in
     let part = take count (drop first (chipOf b .port .memory)) in
     record {
       port =
-          port-left b valid calls small _ _ (ap (map levels) e ∙ read-levels first count) (λ p. reads-idle count _) (done .memory ∙ said);
+          port-left b valid calls _ (read-left (chipOf b) first count (eventsOf calls) v ok e) ∙ ap (λ (m : List ℕ). m ++ noFrame) said;
       settings = ticks-left b valid calls (done .settings);
       returned =
-          told b valid calls small 9 (readAnswers first part) _
+          told b valid calls (subst Sixteen (sym e) (read-sixteen first count)) 9 (readAnswers first part) _
           (offers-told first part ∙ ap (λ (m : List ℕ). nibblesOffered first (take count (drop first m))) said)
-          (read-answered (chipOf b) first count (eventsOf calls) v (accepted-read first count accepts) e);
+          (read-answered (chipOf b) first count (eventsOf calls) v ok e);
       readBack =
-          subst (λ noted. ReadsAs noted (take count (drop first (take 32 b)))) (sym (notes-said b valid calls))
+          subst (λ noted. ReadsAs noted (take count (drop first (take addresses b)))) (sym (notes-said b valid calls))
           (subst (λ m. ReadsAs (notes (chipOf b) (eventsOf calls)) (take count (drop first m))) said (done .noted));
     }
 
@@ -78,17 +77,17 @@ commands : (b codes : List ℕ) (calls : List Call) → recordValid b ≡ true �
     → sent calls ≡ commandStream codes → CallsCommand b codes calls
 commands b codes calls valid accepts e =
     let done : Commands (chipOf b) codes (eventsOf calls) = demand2 .commands (chipOf b) codes (eventsOf calls) (valid-chip b valid) accepts e in
-    let small = subst Sixteen (sym e) (command-sixteen codes) in
+    let defined = accepted-commands codes accepts in
     record {
       port =
-          port-left b valid calls small _ _ (ap (map levels) e ∙ command-levels codes) (λ p. commands-idle codes _)
-          (done .memory ∙ memory-said b valid);
+          port-left b valid calls _ (command-left (chipOf b) codes (eventsOf calls) defined e)
+          ∙ ap (λ (m : List ℕ). m ++ noFrame) (memory-said b valid);
       settings =
           settings-left b valid calls _
           (done .settings ∙ ap (between (dueCommands 26 codes) 0 (eventsOf calls)) (settings-said b valid));
       returned =
-          told b valid calls small 3 (commandsAnswers codes) _ (commands-told codes)
-          (command-answered (chipOf b) codes (eventsOf calls) (accepted-commands codes accepts) e);
+          told b valid calls (subst Sixteen (sym e) (command-sixteen codes)) 3 (commandsAnswers codes) _ (commands-told codes)
+          (command-answered (chipOf b) codes (eventsOf calls) defined e);
     }
 
 pub demand2-of-records : Demand2OfRecords
@@ -104,7 +103,7 @@ demand3-of-records b first ns k calls valid accepts e =
       memory = memory-left b valid calls _ (survives .memory ∙ ap (λ (m : List ℕ). paste m first ns (completed (length ns) k)) said);
       settings = ticks-left b valid calls (survives .settings);
       resent = λ again e₁.
-          ap (take 32) (twice again) ∙ memory-bytes _ (after-valid _ (eventsOf again) stopped-valid .port .size) ∙ survives .resent (eventsOf again) e₁
+          ap (take addresses) (twice again) ∙ memory-bytes _ (after-valid _ (eventsOf again) stopped-valid .port .size) ∙ survives .resent (eventsOf again) e₁
           ∙ ap (λ (m : List ℕ). paste m first ns (length ns)) said;
       readBack = λ again back e₁ e₂.
           subst (λ noted. ReadsAs noted ns)
@@ -112,7 +111,7 @@ demand3-of-records b first ns k calls valid accepts e =
           (survives .readBack (eventsOf again) (eventsOf back) e₁ e₂);
     }
   where
-    said : chipOf b .port .memory ≡ take 32 b
+    said : chipOf b .port .memory ≡ take addresses b
     said = memory-said b valid
 
     stopped-valid : Valid (after (chipOf b) (eventsOf calls))

@@ -1,8 +1,8 @@
 -- The settings go by the answers and the ticks: where no command is obeyed the ticks alone move them, and where some are, each
 -- acts at its sample. Assumes nothing.
-use mathlib.Core.Path.{_≡_, _∙_, refl, sym, ap}
-use mathlib.Core.List.{List, [], _∷_}
-use Prim.Native.Nat.{ℕ, zero, suc, _≤_, _<_}
+use mathlib.Core.Path.{_≡_, _∙_, refl, sym, ap, subst}
+use mathlib.Core.List.{List, [], _∷_, _++_}
+use Prim.Native.Nat.{ℕ, zero, suc, _+_, _≤_, _<_}
 use native.Mathlib.Omega.{arith}
 use lib.ListN.{take}
 use borrow.Author.Tests.{le-ltb, eq-eqb, ne-eqb}
@@ -11,12 +11,15 @@ use Rattle.ticks.specs.Ticks.{ticked, advanced}
 use Rattle.answers.specs.Answers.{Act}
 use Rattle.answers.specs.Answers.{Keep, Store, Obey}
 use Rattle.answers.specs.declared.Answer.{Answer}
+use Rattle.answers.specs.declared.Answer.the-variants.{Nothing, Opened, Stored}
 use Rattle.answers.specs.Answers.{act}
+use Rattle.port.specs.declared.Port.{Port}
 use Rattle.chip.specs.declared.Chip.{Chip}
 use Rattle.chip.specs.Chip.{settingsAfter, stepped}
 use Rattle.demands.specs.Events.{Event, sample, tick, happened, after, samples, ticks, answers}
 use Rattle.demands.specs.Demand2.{ObeyedAt, obeyedBy, obeys, effectAt, between}
-use Rattle.demands.proofs.Ports.{Sixteen}
+use Rattle.demands.specs.Stopped.{firstAnswer, bitAnswers, nibbleAnswers, writeAnswers}
+use Rattle.demands.proofs.Ports.{Sixteen, first-keeps}
 
 -- the settings after events that were answered so
 abbrev through : List Event → List Answer → Settings → Settings
@@ -38,7 +41,7 @@ after-through c (sample s ∷ es) v =
 
 -- ---- no command among the answers
 
-abbrev pub Unobeyed : Act → Type 0
+abbrev Unobeyed : Act → Type 0
 Unobeyed Keep = Unit {0}
 Unobeyed (Store at nibble) = Unit {0}
 Unobeyed (Obey code) = ⊥
@@ -52,11 +55,26 @@ take-plain zero done v = tt
 take-plain (suc k) [] v = tt
 take-plain (suc k) (a ∷ done) v = (v .0, take-plain k done (v .1))
 
-kept : (a : Act) (s : Settings) → Unobeyed a → settingsAfter a s ≡ s
+bits-plain : (count : ℕ) (rest : List Answer) → Plain rest → Plain (bitAnswers count ++ rest)
+bits-plain zero rest v = v
+bits-plain (suc count) rest v = (tt, (tt, bits-plain count rest v))
+
+-- a stream that opens, and a write
+pub opened-plain : (p : Port) (bits : ℕ) (rest : List Answer) → Plain rest → Plain (firstAnswer p ∷ Opened ∷ bitAnswers bits ++ rest)
+opened-plain p bits rest v = (subst Unobeyed (sym (first-keeps p)) tt, (tt, bits-plain bits rest v))
+
+nibbles-plain : (at : ℕ) (ns : List ℕ) → Plain (nibbleAnswers at ns)
+nibbles-plain at [] = (tt, tt)
+nibbles-plain at (n ∷ ns) = bits-plain 3 (Nothing ∷ Stored at n ∷ nibbleAnswers (at + 1) ns) (tt, (tt, nibbles-plain (at + 1) ns))
+
+pub write-plain : (p : Port) (first : ℕ) (ns : List ℕ) → Plain (writeAnswers p first ns)
+write-plain p first ns = opened-plain p 9 (nibbleAnswers first ns) (nibbles-plain first ns)
+
+unobeyed-settings : (a : Act) (s : Settings) → Unobeyed a → settingsAfter a s ≡ s
 unfolding settingsAfter
-kept Keep s v = refl
-kept (Store at nibble) s v = refl
-kept (Obey code) s v = absurd v
+unobeyed-settings Keep s v = refl
+unobeyed-settings (Store at nibble) s v = refl
+unobeyed-settings (Obey code) s v = absurd v
 
 through-plain : (es : List Event) (done : List Answer) (s : Settings) → Plain done → through es done s ≡ advanced (ticks es) s
 unfolding advanced
@@ -64,7 +82,7 @@ through-plain [] done s v = refl
 through-plain (tick ∷ es) done s v = through-plain es done (ticked s) v
 through-plain (sample x ∷ es) [] s v = through-plain es [] s v
 through-plain (sample x ∷ es) (a ∷ done) s v =
-    ap (through es done) (kept (act a) s (v .0)) ∙ through-plain es done s (v .1)
+    ap (through es done) (unobeyed-settings (act a) s (v .0)) ∙ through-plain es done s (v .1)
 
 pub plain-settings : (c : Chip) (es : List Event) → Sixteen (samples es) → Plain (answers c es)
     → after c es .settings ≡ advanced (ticks es) (c .settings)

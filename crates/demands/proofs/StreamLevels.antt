@@ -1,5 +1,5 @@
--- The driver's streams as levels; every sample of them is one of the sixteen, and the last leaves no frame. Assumes nothing.
-use mathlib.Core.Path.{_≡_, _∙_, refl, sym, ap}
+-- The driver's streams as levels, and every sample of them is one of the sixteen. Assumes nothing.
+use mathlib.Core.Path.{_≡_, _∙_, refl, ap}
 use mathlib.Core.Bool.{Bool, true, false}
 use mathlib.Core.List.{List, [], _∷_, _++_, map}
 use Prim.Native.Nat.{ℕ, zero, suc}
@@ -7,9 +7,8 @@ use native.Mathlib.Omega.{arith}
 use lib.ListN.{take}
 use Rattle.lines.specs.declared.Levels.{Levels}
 use Rattle.lines.specs.Samples.{levels}
-use Rattle.port.specs.declared.Port.{Port}
 use Rattle.driver.specs.Streams.{sendBits, opening, writeId, readId, commandId, addressBits, nibbleBits, commandBits, sendNibbles, readNibbles, sendCommands, writeStream, readStream, commandStream}
-use Rattle.demands.proofs.Ports.{Sixteen, runP, idle, high, high-idles}
+use Rattle.demands.proofs.Ports.{Sixteen, high}
 
 -- the two samples of a sent bit, and the lower of a read one
 abbrev pub low : Bool → Levels
@@ -120,23 +119,3 @@ pub map-take : (k : ℕ) (ss : List ℕ) → map levels (take k ss) ≡ take k (
 map-take zero ss = refl
 map-take (suc k) [] = refl
 map-take (suc k) (s ∷ ss) = ap (λ (r : List Levels). levels s ∷ r) (map-take k ss)
-
--- ---- the last sample of each leaves no frame
-
-abbrev pub EndsIdle : List Levels → Type 0
-EndsIdle ls = (p : Port) → runP p ls ≡ idle (runP p ls .memory) high
-
-closing-idle : EndsIdle (high ∷ [])
-closing-idle p = high-idles p ∙ ap (λ (q : Port). idle (q .memory) high) (sym (high-idles p))
-
-pub nibbles-idle : (ns : List ℕ) → EndsIdle (nibblesL ns)
-nibbles-idle [] p = closing-idle p
-nibbles-idle (n ∷ ns) p = nibbles-idle ns _
-
-pub reads-idle : (n : ℕ) → EndsIdle (readsL n)
-reads-idle zero p = closing-idle p
-reads-idle (suc n) p = reads-idle n _
-
-pub commands-idle : (codes : List ℕ) → EndsIdle (commandsL codes)
-commands-idle [] p = closing-idle p
-commands-idle (code ∷ codes) p = commands-idle codes _

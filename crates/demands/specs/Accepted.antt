@@ -9,6 +9,7 @@ use lib.ListN.{length}
 use Rattle.ground.specs.declared.Outcome.the-variants.{Written}
 use Rattle.ground.specs.Outcomes.{Row, row, numberBy, AsTabled}
 use Rattle.ground.specs.Places.{lowest, somewhere}
+use Rattle.ground.specs.Sizes.{addresses}
 use Rattle.commands.specs.Commands.{commandFault}
 use Rattle.chip.specs.Chip.{stepped}
 use Rattle.chip.specs.Pins.{pinsShown}
@@ -22,7 +23,7 @@ use Rattle.host.specs.Host.{powerOnAnswer, powerOnReturns, writeReturns, readRe
 abbrev pub writeTable : ℕ → List ℕ → ℕ → List Row
 writeTable first nibbles room =
     row (eqb (length nibbles) 0) 21 0
-    ∷ row (ltb 31 first || ltb 32 (first + length nibbles)) 22 0
+    ∷ row (ltb 31 first || ltb addresses (first + length nibbles)) 22 0
     ∷ row (somewhere (ltb 15) nibbles) 23 (lowest (ltb 15) nibbles)
     ∷ row (ltb room (21 + 8 * length nibbles)) 25 0 ∷ []
 
@@ -30,7 +31,7 @@ writeTable first nibbles room =
 abbrev pub readTable : ℕ → ℕ → ℕ → List Row
 readTable first count room =
     row (eqb count 0) 21 0
-    ∷ row (ltb 31 first || ltb 32 (first + count)) 22 0
+    ∷ row (ltb 31 first || ltb addresses (first + count)) 22 0
     ∷ row (ltb room (21 + 8 * count)) 25 0 ∷ []
 
 -- Giving commands.
@@ -51,7 +52,7 @@ decodeTable noted room =
 -- Power-on with a memory, into a buffer for its record.
 abbrev pub powerOnTable : List ℕ → ℕ → List Row
 powerOnTable memory room =
-    row (not (eqb (length memory) 32)) 29 0
+    row (not (eqb (length memory) addresses)) 29 0
     ∷ row (somewhere (ltb 15) memory) 23 (lowest (ltb 15) memory)
     ∷ row (ltb room 64) 25 0 ∷ []
 
@@ -63,7 +64,7 @@ abbrev pub advanceTable : List ℕ → List Row
 advanceTable bytes = row (not (recordValid bytes)) 28 0 ∷ []
 
 abbrev pub pinsTable : List ℕ → List ℕ → List Row
-pinsTable bytes cells = row (not (recordValid bytes)) 28 0 ∷ row (ltb (length cells) 32) 25 0 ∷ []
+pinsTable bytes cells = row (not (recordValid bytes)) 28 0 ∷ row (ltb (length cells) addresses) 25 0 ∷ []
 
 -- What a call of the maker's library returns by its table: the size where no test holds, and else 2^31 + 256 x place + number of
 -- the first row whose test does.

@@ -6,6 +6,7 @@ use Prim.Native.Nat.{ℕ, _≤_}
 use lib.ListN.{length}
 use Rattle.ground.specs.declared.Outcome.the-variants.{Written}
 use Rattle.ground.specs.Outcomes.{RefusedWith}
+use Rattle.ground.specs.Sizes.{addresses}
 use Rattle.commands.specs.declared.Bias.the-variants.{Third}
 use Rattle.commands.specs.declared.Commons.the-variants.{Four}
 use Rattle.commands.specs.declared.Command.the-variants.{BiasCom}
@@ -44,8 +45,8 @@ pub record Cases : Type 0 where
   pub b : (chip : Chip) → (answerNumber (stepped chip 16 .answer) ≡ 20) × (stepped chip 16 .chip ≡ chip)
   -- (c) writing or reading, one nibble is 29 samples and 32 are 277
   pub c : (first : ℕ) (nibbles : List ℕ) → (length nibbles ≡ 1 → length (writeStream first nibbles) ≡ 29)
-      × (length nibbles ≡ 32 → length (writeStream first nibbles) ≡ 277)
-      × (length (readStream first 1) ≡ 29) × (length (readStream first 32) ≡ 277)
+      × (length nibbles ≡ addresses → length (writeStream first nibbles) ≡ 277)
+      × (length (readStream first 1) ≡ 29) × (length (readStream first addresses) ≡ 277)
   -- (d) from address 31 on one nibble is accepted wherever 29 samples have room, and two are refused with 22 in any room
   pub d : (n m room : ℕ) → (n ≤ 15 → 29 ≤ room → writeAnswer 31 (n ∷ []) room ≡ Written 29)
       × (RefusedWith 22 0 (writeAnswer 31 (n ∷ m ∷ []) room))
