@@ -16,23 +16,13 @@ use Rattle.chip.specs.declared.Chip.{Chip}
 use Rattle.chip.specs.declared.Stepped.{Stepped}
 use Rattle.chip.specs.Chip.{stepped, advanced}
 use Rattle.chip.specs.Valid.{Valid}
-<<<<<<< ours
-use Rattle.chip.proofs.ValidLaws.{stepped-valid, refused-keeps, ticked-valid, advanced-valid}
-=======
 use Rattle.chip.proofs.ValidLaws.{stepped-valid, refused-keeps, advanced-valid}
-use Rattle.place.specs.Place.{answerCode}
->>>>>>> theirs
 use Rattle.state.specs.Record.{byte, tailOf, recordOf}
 use Rattle.state.proofs.BytesLaws.{byte-past}
 use Rattle.state.proofs.ChipLaws.{chip-valid, chip-again}
 use Rattle.state.proofs.CodesLaws.{levels-back}
-<<<<<<< ours
 use Rattle.simulator.specs.Simulator.{answerCode, stepReturns, stepBytes, advanceBytes}
-use Rattle.demands.specs.Events.{Event, sample, tick, happened, after, answers, dataNumber, notes}
-=======
-use Rattle.simulator.specs.Simulator.{stepReturns, stepBytes, advanceBytes}
 use Rattle.demands.specs.Events.{after, answers, dataNumber, notes}
->>>>>>> theirs
 use Rattle.demands.specs.Calls.{Call, step, advance, afterCalls, eventsOf, sent, returns, dataNoted, noted}
 use Rattle.demands.proofs.EventsLaws.{after-pause, answers-pause, notes-pause, samples-pause}
 use Rattle.demands.proofs.Ports.{Sixteen}

@@ -11,7 +11,7 @@ use Rattle.ticks.specs.Ticks.{running, ticked, advanced}
 use Rattle.clock.specs.Ticks.{due, timerStepped, baseTicked, prescaledTick, countersTicked}
 use Rattle.pins.specs.Pins.{irqLow}
 use Rattle.frames.specs.Frames.{frame, closed}
-use Rattle.chip.specs.Chip.{stepped, settingsAfter, obeyedAs}
+use Rattle.chip.specs.Chip.{steppedTo, stepped, settingsAfter, obeyedAs}
 use Rattle.port.specs.Port.{moved, framedBy, memoryAfter}
 use Rattle.driver.specs.Streams.{commandStream}
 use Rattle.driver.proofs.CasesLaws.{write-one, write-thirty-two, read-one, read-thirty-two, write-at-31, write-past-31, read-at-31, read-past-31}
@@ -55,7 +55,7 @@ abbrev flag-set : Settings → Bool
 flag-set s = s .counters .timer .watchdog .flag
 
 pub cases : Cases
-unfolding byteMeaning effect running ticked advanced due timerStepped baseTicked prescaledTick countersTicked irqLow frame closed stepped moved framedBy memoryAfter settingsAfter obeyedAs commandStream
+unfolding byteMeaning effect running ticked advanced due timerStepped baseTicked prescaledTick countersTicked irqLow frame closed stepped steppedTo moved framedBy memoryAfter settingsAfter obeyedAs commandStream
 cases =
     record {
       a = λ memory. (refl, refl);

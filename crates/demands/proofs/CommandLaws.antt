@@ -13,9 +13,9 @@ use Rattle.phases.specs.declared.Phase.the-variants.{Command}
 use Rattle.phases.specs.declared.Line.the-variants.{Released}
 use Rattle.answers.specs.declared.Answer.{Answer}
 use Rattle.answers.specs.declared.Answer.the-variants.{Nothing, Opened, Closed, Obeyed}
-use Rattle.frames.specs.Frames.{frame, closed, taken, identTaken, identified, commandTaken, commandAnswer}
-use Rattle.chip.specs.Chip.{decodedAnswer}
-use Rattle.answers.specs.Answers.{act}
+use Rattle.frames.specs.Frames.{frame, closed, taken, identTaken, identified, commandTaken}
+use Rattle.chip.specs.Chip.{decodedAnswer, told}
+use Rattle.frames.specs.declared.Upshot.the-variants.{Code}
 use Rattle.port.specs.declared.Port.{Port}
 use Rattle.port.specs.Port.{memoryAfter, framedBy, moved}
 use Rattle.driver.specs.Refusals.{commandFault}
@@ -36,8 +36,8 @@ defined-obeys : (decoded : Decoded) (code : ℕ) → undefined decoded ≡ false
 defined-obeys Undefined code e = absurd (true≢false e)
 defined-obeys (Means command) code e = refl
 
-code-obeyed : (code : ℕ) → code < 256 → commandFault code ≡ false → commandAnswer (codeSent code) ≡ Obeyed code
-unfolding commandAnswer commandFault
+code-obeyed : (code : ℕ) → code < 256 → commandFault code ≡ false → told (Code (codeSent code / 2 % 256)) ≡ Obeyed code
+unfolding commandFault
 code-obeyed code h e = rw (code-sent code h, half) (defined-obeys (codeMeaning (2 * code)) code e)
   where
     half : 2 * code / 2 % 256 ≡ code
@@ -49,21 +49,16 @@ code-obeyed code h e = rw (code-sent code h, half) (defined-obeys (codeMeaning (
 abbrev commanding : Bool → List ℕ → Port
 commanding b m = record { memory = m; levels = up b; phase = Command 0 0; line = Released }
 
-command-run : (b : Bool) (m : List ℕ) (code : ℕ)
-    → runP (commanding b m) (bitsL (commandBits code)) ≡ commanding false (memoryAfter (act (commandAnswer (codeSent code))) m)
+command-step : (b : Bool) (m : List ℕ) (code : ℕ) → runP (commanding b m) (bitsL (commandBits code)) ≡ commanding false m
 unfolding moved framedBy frame taken commandTaken memoryAfter
-command-run b m code = refl
+command-step b m code = refl
 
 command-trace : (b : Bool) (m : List ℕ) (code : ℕ)
-    → trace (commanding b m) (bitsL (commandBits code)) ≡ bitAnswers 8 ++ Nothing ∷ commandAnswer (codeSent code) ∷ []
+    → trace (commanding b m) (bitsL (commandBits code)) ≡ bitAnswers 8 ++ Nothing ∷ told (Code (codeSent code / 2 % 256)) ∷ []
 unfolding moved framedBy frame taken commandTaken memoryAfter
 command-trace b m code = refl
 
 module _ (code : ℕ) (h : code < 256) (e : commandFault code ≡ false) where
-  command-step : (b : Bool) (m : List ℕ) → runP (commanding b m) (bitsL (commandBits code)) ≡ commanding false m
-  unfolding memoryAfter
-  command-step b m = command-run b m code ∙ ap (λ (a : Answer). commanding false (memoryAfter (act a) m)) (code-obeyed code h e)
-
   command-answers : (b : Bool) (m : List ℕ)
       → trace (commanding b m) (bitsL (commandBits code)) ≡ bitAnswers 8 ++ Nothing ∷ Obeyed code ∷ []
   command-answers b m =
@@ -90,13 +85,13 @@ body-answers (code ∷ codes) b m v =
     ∙ ap (λ (done : List Answer). done ++ trace (runP (commanding b m) (bitsL (commandBits code))) (commandsL codes))
     (command-answers code (v .0 .0) (v .0 .1) b m)
     ∙ ap (λ (rest : List Answer). bitAnswers 8 ++ Nothing ∷ Obeyed code ∷ rest)
-    (ap (λ (q : Port). trace q (commandsL codes)) (command-step code (v .0 .0) (v .0 .1) b m) ∙ body-answers codes false m (v .1))
+    (ap (λ (q : Port). trace q (commandsL codes)) (command-step b m code) ∙ body-answers codes false m (v .1))
 
 body-leaves : (codes : List ℕ) (b : Bool) (m : List ℕ) → Defined codes → runP (commanding b m) (commandsL codes) ≡ idle m high
 body-leaves [] b m v = closes-idle b m
 body-leaves (code ∷ codes) b m v =
     run-append (commanding b m) (bitsL (commandBits code)) (commandsL codes)
-    ∙ ap (λ (q : Port). runP q (commandsL codes)) (command-step code (v .0 .0) (v .0 .1) b m)
+    ∙ ap (λ (q : Port). runP q (commandsL codes)) (command-step b m code)
     ∙ body-leaves codes false m (v .1)
 
 abbrev restL : List Levels

@@ -13,15 +13,15 @@ use Rattle.phases.specs.declared.Line.the-variants.{Released}
 use Rattle.lines.specs.declared.Edge.the-variants.{Rests, Closes}
 use Rattle.answers.specs.declared.Answer.{Answer}
 use Rattle.answers.specs.declared.Answer.the-variants.{Nothing, Closed, Dropped}
-use Rattle.answers.specs.Answers.{Keep}
+use Rattle.frames.specs.declared.Upshot.the-variants.{Answered}
 use Rattle.lines.specs.Samples.{levels}
 use Rattle.frames.specs.Frames.{frame, closed}
-use Rattle.answers.specs.Answers.{act}
+use Rattle.answers.specs.Answers.{Keep, act}
 use Rattle.phases.specs.Phases.{unfinished}
 use Rattle.port.specs.declared.Port.{Port}
 use Rattle.chip.specs.declared.Chip.{Chip}
 use Rattle.port.specs.Port.{memoryAfter, framedBy, moved}
-use Rattle.chip.specs.Chip.{stepped}
+use Rattle.chip.specs.Chip.{told, steppedTo, stepped}
 use Rattle.demands.specs.Events.{Event, sample, tick, happened, after, samples, answers}
 use Rattle.demands.specs.Stopped.{firstAnswer}
 
@@ -37,7 +37,7 @@ runP p (l ∷ ls) = runP (moved p l .port) ls
 
 abbrev pub trace : Port → List Levels → List Answer
 trace p [] = []
-trace p (l ∷ ls) = moved p l .answer ∷ trace (moved p l .port) ls
+trace p (l ∷ ls) = told (moved p l .upshot) ∷ trace (moved p l .port) ls
 
 pub run-append : (p : Port) (xs ys : List Levels) → runP p (xs ++ ys) ≡ runP (runP p xs) ys
 run-append p [] ys = refl
@@ -45,14 +45,14 @@ run-append p (x ∷ xs) ys = run-append (moved p x .port) xs ys
 
 pub trace-append : (p : Port) (xs ys : List Levels) → trace p (xs ++ ys) ≡ trace p xs ++ trace (runP p xs) ys
 trace-append p [] ys = refl
-trace-append p (x ∷ xs) ys = ap (λ (rest : List Answer). moved p x .answer ∷ rest) (trace-append (moved p x .port) xs ys)
+trace-append p (x ∷ xs) ys = ap (λ (rest : List Answer). told (moved p x .upshot) ∷ rest) (trace-append (moved p x .port) xs ys)
 
 pub stepped-moved : (c : Chip) (s : ℕ) → s ≤ 15 → stepped c s .chip .port ≡ moved (c .port) (levels s) .port
-unfolding stepped
+unfolding stepped steppedTo
 stepped-moved c s h = simp (le-ltb _ _ h)
 
-stepped-answer : (c : Chip) (s : ℕ) → s ≤ 15 → stepped c s .answer ≡ moved (c .port) (levels s) .answer
-unfolding stepped
+stepped-answer : (c : Chip) (s : ℕ) → s ≤ 15 → stepped c s .answer ≡ told (moved (c .port) (levels s) .upshot)
+unfolding stepped steppedTo
 stepped-answer c s h = simp (le-ltb _ _ h)
 
 pub after-port : (c : Chip) (es : List Event) → Sixteen (samples es) → after c es .port ≡ runP (c .port) (map levels (samples es))
@@ -84,16 +84,16 @@ closing-act before done = either (λ a. act a ≡ Keep) before refl (either (λ 
 module _ (p : Port) where
   by-before : (before : Bool) (n : ℕ)
       → frame (cond before Rests Closes) n (p .phase) (p .line)
-      ≡ record { phase = Idle; line = Released; answer = cond before Nothing (cond (eqb (unfinished (p .phase)) 0) Closed Dropped) }
+      ≡ record { phase = Idle; line = Released; upshot = Answered (cond before Nothing (cond (eqb (unfinished (p .phase)) 0) Closed Dropped)) }
   unfolding frame closed
   by-before true n = refl
   by-before false n = refl
 
   pub high-idles : moved p high .port ≡ idle (p .memory) high
   unfolding moved framedBy memoryAfter
-  high-idles = simp (by-before (p .levels .cs), closing-act)
+  high-idles = simp (by-before (p .levels .cs))
 
-  high-answer : moved p high .answer ≡ firstAnswer p
+  high-answer : told (moved p high .upshot) ≡ firstAnswer p
   unfolding moved framedBy
   high-answer = simp (by-before (p .levels .cs))
 

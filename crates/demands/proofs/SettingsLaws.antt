@@ -2,35 +2,64 @@
 -- acts at its sample. Assumes nothing.
 use mathlib.Core.Path.{_≡_, _∙_, refl, sym, ap, subst}
 use mathlib.Core.List.{List, [], _∷_, _++_}
-use Prim.Native.Nat.{ℕ, zero, suc, _+_, _≤_, _<_}
+use Prim.Native.Nat.{ℕ, zero, suc, _+_, _*_, _≤_, _<_}
 use native.Mathlib.Omega.{arith}
-use lib.ListN.{take}
+use lib.ListN.{getD, take}
 use borrow.Author.Tests.{le-ltb, eq-eqb, ne-eqb}
 use Rattle.settings.specs.declared.Settings.{Settings}
 use Rattle.ticks.specs.Ticks.{ticked, advanced}
-use Rattle.answers.specs.Answers.{Act}
-use Rattle.answers.specs.Answers.{Keep, Store, Obey}
 use Rattle.answers.specs.declared.Answer.{Answer}
 use Rattle.answers.specs.declared.Answer.the-variants.{Nothing, Opened, Stored}
-use Rattle.answers.specs.Answers.{act}
+use Rattle.answers.specs.Answers.{Act, Keep, Store, Obey, act}
+use Rattle.commands.specs.declared.Decoded.{Decoded}
+use Rattle.commands.specs.declared.Decoded.the-variants.{Undefined, Means}
+use Rattle.commands.specs.Commands.{codeMeaning}
+use Rattle.lines.specs.Samples.{levels, edge}
+use Rattle.phases.specs.Phases.{address}
+use Rattle.frames.specs.declared.Upshot.{Upshot}
+use Rattle.frames.specs.declared.Upshot.the-variants.{Answered, Nibble, Code}
+use Rattle.frames.proofs.AnswersLaws.{Own, frame-own}
 use Rattle.port.specs.declared.Port.{Port}
+use Rattle.port.specs.Port.{framedBy, moved}
 use Rattle.chip.specs.declared.Chip.{Chip}
-use Rattle.chip.specs.Chip.{settingsAfter, stepped}
+use Rattle.chip.specs.Chip.{decodedAnswer, obeyedAs, told, settingsAfter, steppedTo, stepped}
 use Rattle.demands.specs.Events.{Event, sample, tick, happened, after, samples, ticks, answers}
 use Rattle.demands.specs.Demand2.{ObeyedAt, obeyedBy, obeys, effectAt, between}
 use Rattle.demands.specs.Stopped.{firstAnswer, bitAnswers, nibbleAnswers, writeAnswers}
 use Rattle.demands.proofs.Ports.{Sixteen, first-keeps}
+
+-- what an answer did to the settings
+abbrev settingsBy : Act → Settings → Settings
+settingsBy Keep s = s
+settingsBy (Store at nibble) s = s
+settingsBy (Obey code) s = obeyedAs (codeMeaning (2 * code)) s
+
+decoded-settings : (decoded : Decoded) (code : ℕ) (s : Settings) → codeMeaning (2 * code) ≡ decoded
+    → obeyedAs decoded s ≡ settingsBy (act (decodedAnswer decoded code)) s
+unfolding obeyedAs
+decoded-settings Undefined code s e = refl
+decoded-settings (Means command) code s e = sym (ap (λ (d : Decoded). obeyedAs d s) e)
+
+upshot-settings : (upshot : Upshot) → Own upshot → (s : Settings) → settingsAfter upshot s ≡ settingsBy (act (told upshot)) s
+unfolding settingsAfter
+upshot-settings (Answered answer) own s = sym (ap (λ (a : Act). settingsBy a s) (own .0))
+upshot-settings (Nibble at nibble) own s = refl
+upshot-settings (Code code) own s = decoded-settings (codeMeaning (2 * code)) code s refl
 
 -- the settings after events that were answered so
 abbrev through : List Event → List Answer → Settings → Settings
 through [] done s = s
 through (tick ∷ es) done s = through es done (ticked s)
 through (sample x ∷ es) [] s = through es [] s
-through (sample x ∷ es) (a ∷ done) s = through es done (settingsAfter (act a) s)
+through (sample x ∷ es) (a ∷ done) s = through es done (settingsBy (act a) s)
 
-stepped-settings : (c : Chip) (s : ℕ) → s ≤ 15 → stepped c s .chip .settings ≡ settingsAfter (act (stepped c s .answer)) (c .settings)
-unfolding stepped
-stepped-settings c s h = simp (le-ltb _ _ h)
+stepped-settings : (c : Chip) (s : ℕ) → s ≤ 15 → stepped c s .chip .settings ≡ settingsBy (act (stepped c s .answer)) (c .settings)
+unfolding stepped steppedTo moved framedBy
+stepped-settings c s h =
+    simp (le-ltb _ _ h)
+    (upshot-settings (framedBy (c .port) (levels s) .upshot)
+    (frame-own (edge (c .port .levels) (levels s)) (getD (c .port .memory) (address (c .port .phase)) 0) (c .port .phase) (c .port .line))
+    (c .settings))
 
 after-through : (c : Chip) (es : List Event) → Sixteen (samples es) → after c es .settings ≡ through es (answers c es) (c .settings)
 after-through c [] v = refl
@@ -70,8 +99,7 @@ nibbles-plain at (n ∷ ns) = bits-plain 3 (Nothing ∷ Stored at n ∷ nibbleAn
 pub write-plain : (p : Port) (first : ℕ) (ns : List ℕ) → Plain (writeAnswers p first ns)
 write-plain p first ns = opened-plain p 9 (nibbleAnswers first ns) (nibbles-plain first ns)
 
-unobeyed-settings : (a : Act) (s : Settings) → Unobeyed a → settingsAfter a s ≡ s
-unfolding settingsAfter
+unobeyed-settings : (a : Act) (s : Settings) → Unobeyed a → settingsBy a s ≡ s
 unobeyed-settings Keep s v = refl
 unobeyed-settings (Store at nibble) s v = refl
 unobeyed-settings (Obey code) s v = absurd v
@@ -124,9 +152,8 @@ past-due d due n (sample x ∷ es) s h =
 
 -- one sample: what it is answered is what is due there
 one-due : (a : Act) (n : ℕ) (rest : List ObeyedAt) (es : List Event) (s : Settings) → Later (suc n) rest
-    → between rest (suc n) es (settingsAfter a s)
+    → between rest (suc n) es (settingsBy a s)
     ≡ between (obeyedBy a (suc n) rest) (suc n) es (effectAt (obeyedBy a (suc n) rest) (suc n) s)
-unfolding settingsAfter
 one-due Keep n rest es s v = ap (between rest (suc n) es) (sym (none-due (suc n) rest s v))
 one-due (Store at nibble) n rest es s v = ap (between rest (suc n) es) (sym (none-due (suc n) rest s v))
 one-due (Obey command) n rest es s v =
@@ -138,7 +165,7 @@ through-due [] done n s = refl
 through-due (tick ∷ es) done n s = through-due es done n (ticked s)
 through-due (sample x ∷ es) [] n s = through-due es [] (suc n) s
 through-due (sample x ∷ es) (a ∷ done) n s =
-    through-due es done (suc n) (settingsAfter (act a) s)
+    through-due es done (suc n) (settingsBy (act a) s)
     ∙ one-due (act a) n (obeys (suc (suc n)) done) es s (obeys-later (suc n) done)
 
 pub due-settings : (c : Chip) (es : List Event) → Sixteen (samples es)

@@ -147,9 +147,10 @@ module _ (m : List ℕ) (first : ℕ) (ns : List ℕ) (fit : Fit first ns) where
   head-told = refl
 
   head-cut : (k : ℕ) → k < 19 → Cut k
-  head-cut k h =
-      (agree (λ k. runP (idle m high) (take k tail)) standsAt 19 head-stands k h,
-      agree (λ k. trace (idle m high) (take k tail)) (λ k. take k dueAnswers) 19 head-told k h)
+  head-cut k h = (
+    agree (λ k. runP (idle m high) (take k tail)) standsAt 19 head-stands k h,
+    agree (λ k. trace (idle m high) (take k tail)) (λ k. take k dueAnswers) 19 head-told k h,
+  )
 
   head-leaves : runP (idle m high) (restL first) ≡ ready (bitAt 0 first) m (reached first)
   unfolding moved framedBy frame taken identTaken identified writeToTaken memoryAfter

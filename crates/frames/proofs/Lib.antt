@@ -1,2 +1,3 @@
+pub mod AnswersLaws
 pub mod Determined
 pub mod ValidLaws
