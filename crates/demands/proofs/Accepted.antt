@@ -11,8 +11,8 @@ use Rattle.ground.proofs.OutcomesLaws.{rowOf, ladder-tabled}
 use Rattle.driver.specs.Refusals.{outsideMemory, tooMany, miscounted}
 use Rattle.driver.specs.Refusals.{writeRefusals, readRefusals, commandRefusals, decodeRefusals}
 use Rattle.driver.specs.Refusals.{writeAnswer, readAnswer, commandAnswer, decodeAnswer}
-use Rattle.driver.specs.Streams.{writeStream, readStream, commandStream, decoded}
-use Rattle.driver.proofs.StreamsLaws.{write-length, read-length, commands-length, decoded-length}
+use Rattle.streams.specs.Streams.{writeStream, readStream, commandStream, decoded}
+use Rattle.streams.proofs.StreamsLaws.{write-length, read-length, commands-length, decoded-length}
 use Rattle.simulator.specs.Simulator.{stepReturns, advanceReturns, pinsReturns}
 use Rattle.host.specs.Host.{hostCode, recordRefusals, powerOnAnswer, powerOnReturns, writeReturns, readReturns, commandsReturns, decodeReturns}
 use Rattle.demands.specs.Accepted.{writeTable, readTable, commandTable, decodeTable, powerOnTable, codeBy, Accepted}

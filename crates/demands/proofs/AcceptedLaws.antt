@@ -19,9 +19,9 @@ use Rattle.port.specs.Valid.{Nibbles}
 use Rattle.ground.specs.declared.Outcome.the-variants.{Written}
 use Rattle.ground.specs.Outcomes.{left}
 use Rattle.driver.specs.Refusals.{outsideMemory, nibbleFault, commandFault, writeAnswer}
-use Rattle.driver.specs.Streams.{writeStream, readStream, commandStream}
+use Rattle.streams.specs.Streams.{writeStream, readStream, commandStream}
 use Rattle.driver.proofs.RefusalsLaws.{inside}
-use Rattle.driver.proofs.StreamsLaws.{write-length}
+use Rattle.streams.proofs.StreamsLaws.{write-length}
 use Rattle.demands.specs.Accepted.{AcceptsWrite, AcceptsRead, AcceptsCommands}
 use Rattle.demands.proofs.Accepted.{accepted}
 use Rattle.demands.proofs.CommandLaws.{Defined}

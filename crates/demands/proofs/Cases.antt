@@ -13,7 +13,7 @@ use Rattle.pins.specs.Pins.{irqLow}
 use Rattle.frames.specs.Frames.{frame, closed}
 use Rattle.chip.specs.Chip.{steppedTo, stepped, settingsAfter, obeyedAs}
 use Rattle.port.specs.Port.{moved, framedBy, memoryAfter}
-use Rattle.driver.specs.Streams.{commandStream}
+use Rattle.streams.specs.Streams.{commandStream}
 use Rattle.driver.proofs.CasesLaws.{write-one, write-thirty-two, read-one, read-thirty-two, write-at-31, write-past-31, read-at-31, read-past-31}
 use Rattle.demands.specs.Cases.{Cleared, Cases}
 

@@ -19,7 +19,7 @@ use Rattle.frames.specs.declared.Upshot.the-variants.{Code}
 use Rattle.port.specs.declared.Port.{Port}
 use Rattle.port.specs.Port.{memoryAfter, framedBy, moved}
 use Rattle.driver.specs.Refusals.{commandFault}
-use Rattle.driver.specs.Streams.{commandId, commandBits}
+use Rattle.streams.specs.Streams.{commandId, commandBits}
 use Rattle.demands.specs.Stopped.{firstAnswer, bitAnswers}
 use Rattle.demands.proofs.Ports.{runP, run-append, run-headed, trace, trace-append, trace-headed, idle, high}
 use Rattle.demands.proofs.SentLaws.{codeSent, code-sent}

@@ -16,7 +16,7 @@ use Rattle.port.specs.declared.Port.{Port}
 use Rattle.chip.specs.declared.Chip.{Chip}
 use Rattle.port.specs.Valid.{Nibbles}
 use Rattle.chip.specs.Valid.{Valid}
-use Rattle.driver.specs.Streams.{writeStream, readStream, commandStream}
+use Rattle.streams.specs.Streams.{writeStream, readStream, commandStream}
 use Rattle.demands.specs.Events.{Event, after, samples, answers}
 use Rattle.demands.specs.Accepted.{AcceptsWrite}
 use Rattle.demands.specs.Demand2.{StoredAt, ObeyedAt, storedBy, stores, dueStores, obeyedBy, obeys, dueCommands, lastAnswer, between, Writes, Reads, Commands, Demand2}

@@ -9,7 +9,7 @@ use lib.Seq.{paste, take-length, take-at, drop-at, drop-drop, drop-paste, length
 use Rattle.lines.specs.Samples.{levels}
 use Rattle.port.specs.declared.Port.{Port}
 use Rattle.chip.specs.declared.Chip.{Chip}
-use Rattle.driver.specs.Streams.{writeStream, readStream}
+use Rattle.streams.specs.Streams.{writeStream, readStream}
 use Rattle.demands.specs.Events.{Event, after, samples, notes, ReadsAs}
 use Rattle.demands.specs.Demand3.{completed, Demand3}
 use Rattle.demands.specs.Stopped.{writeAnswers}

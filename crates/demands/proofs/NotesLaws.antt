@@ -13,7 +13,7 @@ use Rattle.ground.specs.Sizes.{addresses}
 use Rattle.ground.specs.Values.{values, agree}
 use Rattle.port.specs.Valid.{Nibbles}
 use Rattle.driver.specs.Refusals.{notedFault, miscounted, decodeAnswer}
-use Rattle.driver.specs.Streams.{nibbleOf, decoded}
+use Rattle.streams.specs.Streams.{nibbleOf, decoded}
 use Rattle.demands.specs.Events.{ReadsAs}
 use Rattle.demands.proofs.AcceptedLaws.{Fit}
 

@@ -22,7 +22,7 @@ use Rattle.frames.specs.Frames.{next, reached, frame, closed, taken, identTaken
 use Rattle.port.specs.declared.Port.{Port}
 use Rattle.chip.specs.declared.Chip.{Chip}
 use Rattle.port.specs.Port.{memoryAfter, framedBy, moved}
-use Rattle.driver.specs.Streams.{readId, addressBits}
+use Rattle.streams.specs.Streams.{readId, addressBits}
 use Rattle.demands.specs.Events.{Event, sample, tick, happened, samples, dataNumber, notes}
 use Rattle.demands.specs.Demand2.{lastAnswer}
 use Rattle.demands.specs.Stopped.{firstAnswer, bitAnswers}

@@ -10,7 +10,7 @@ use Rattle.ground.specs.Sizes.{addresses}
 use Rattle.chip.specs.Valid.{Valid}
 use Rattle.state.specs.Record.{recordOf, recordValid, chipOf}
 use Rattle.state.proofs.ChipLaws.{valid-chip, chip-valid}
-use Rattle.driver.specs.Streams.{writeStream, readStream, commandStream}
+use Rattle.streams.specs.Streams.{writeStream, readStream, commandStream}
 use Rattle.state.proofs.BytesLaws.{memory-bytes}
 use Rattle.demands.specs.Accepted.{AcceptsWrite, AcceptsRead, AcceptsCommands}
 use Rattle.demands.specs.Events.{after, notes, ReadsAs}

@@ -17,7 +17,7 @@ use Rattle.ground.specs.declared.Outcome.{Outcome}
 use Rattle.ground.specs.declared.Outcome.the-variants.{Written, Refused}
 use Rattle.ground.specs.Outcomes.{left, ComesTo}
 use Rattle.driver.specs.Refusals.{writeAnswer}
-use Rattle.driver.specs.Streams.{writeStream}
+use Rattle.streams.specs.Streams.{writeStream}
 use Rattle.demands.specs.Events.{after, samples, ticks}
 use Rattle.demands.specs.Demand3.{Survives}
 use Rattle.demands.specs.Rehearsal.{paced, stopped, Rehearses, Demand3OfRehearsals}

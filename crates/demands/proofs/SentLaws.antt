@@ -6,7 +6,7 @@ use native.Mathlib.Omega.{arith}
 use Rattle.ground.specs.Sizes.{addresses}
 use Rattle.ground.specs.Values.{values, agree}
 use Rattle.frames.specs.Frames.{turned, reached, next}
-use Rattle.driver.specs.Streams.{addressBits, nibbleBits, commandBits}
+use Rattle.streams.specs.Streams.{addressBits, nibbleBits, commandBits}
 use Rattle.demands.specs.Stopped.{withBits}
 
 abbrev pub addressSent : ℕ → ℕ

@@ -25,8 +25,8 @@ use Rattle.chip.specs.declared.Chip.{Chip}
 use Rattle.port.specs.Port.{memoryAfter, framedBy, moved}
 use Rattle.port.specs.Valid.{Nibbles}
 use Rattle.chip.specs.Valid.{Valid}
-use Rattle.driver.specs.Streams.{writeId, addressBits, nibbleBits, writeStream}
-use Rattle.driver.proofs.StreamsLaws.{write-length}
+use Rattle.streams.specs.Streams.{writeId, addressBits, nibbleBits, writeStream}
+use Rattle.streams.proofs.StreamsLaws.{write-length}
 use Rattle.demands.specs.Accepted.{AcceptsWrite}
 use Rattle.demands.specs.Demand3.{completing, completed}
 use Rattle.demands.specs.Events.{Event, after, samples, answers}

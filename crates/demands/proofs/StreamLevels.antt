@@ -7,7 +7,7 @@ use native.Mathlib.Omega.{arith}
 use lib.ListN.{take}
 use Rattle.lines.specs.declared.Levels.{Levels}
 use Rattle.lines.specs.Samples.{levels}
-use Rattle.driver.specs.Streams.{sendBits, opening, writeId, readId, commandId, addressBits, nibbleBits, commandBits, sendNibbles, readNibbles, sendCommands, writeStream, readStream, commandStream}
+use Rattle.streams.specs.Streams.{sendBits, opening, writeId, readId, commandId, addressBits, nibbleBits, commandBits, sendNibbles, readNibbles, sendCommands, writeStream, readStream, commandStream}
 use Rattle.demands.proofs.Ports.{Sixteen, high}
 
 -- the two samples of a sent bit, and the lower of a read one

@@ -15,7 +15,7 @@ use Rattle.chip.specs.Chip.{stepped}
 use Rattle.chip.specs.Pins.{pinsShown}
 use Rattle.state.specs.Record.{recordValid, chipOf}
 use Rattle.simulator.specs.Simulator.{answerCode, pinsCode, stepReturns, advanceReturns, pinsReturns}
-use Rattle.driver.specs.Streams.{writeStream, readStream, commandStream}
+use Rattle.streams.specs.Streams.{writeStream, readStream, commandStream}
 use Rattle.driver.specs.Refusals.{writeAnswer, readAnswer, commandAnswer, decodeAnswer}
 use Rattle.host.specs.Host.{powerOnAnswer, powerOnReturns, writeReturns, readReturns, commandsReturns, decodeReturns}
 

@@ -23,7 +23,7 @@ use Rattle.chip.specs.declared.Chip.{Chip}
 use Rattle.chip.specs.Chip.{stepped, obeyedAs}
 use Rattle.chip.specs.PowerOn.{freshChip}
 use Rattle.driver.specs.Refusals.{writeAnswer, readAnswer}
-use Rattle.driver.specs.Streams.{writeStream, readStream, commandStream, decoded}
+use Rattle.streams.specs.Streams.{writeStream, readStream, commandStream, decoded}
 
 -- Where (h), (i) and (j) begin: the clock's source; running, that is, the system on; the time base on; r = 7; cleared. All else
 -- of the settings is free.

@@ -19,7 +19,7 @@ use Rattle.answers.specs.Answers.{act}
 use Rattle.chip.specs.declared.Chip.{Chip}
 use Rattle.chip.specs.Chip.{obeyedAs}
 use Rattle.chip.specs.Valid.{Valid}
-use Rattle.driver.specs.Streams.{writeStream, readStream, commandStream}
+use Rattle.streams.specs.Streams.{writeStream, readStream, commandStream}
 use Rattle.demands.specs.Events.{Event, sample, tick, after, samples, ticks, answers, notes, ReadsAs}
 use Rattle.demands.specs.Accepted.{Accepted, AcceptsWrite, AcceptsRead, AcceptsCommands}
 

@@ -12,7 +12,7 @@ use lib.Seq.{paste}
 use Rattle.ticks.specs.Ticks.{advanced}
 use Rattle.chip.specs.declared.Chip.{Chip}
 use Rattle.chip.specs.Valid.{Valid}
-use Rattle.driver.specs.Streams.{writeStream, readStream}
+use Rattle.streams.specs.Streams.{writeStream, readStream}
 use Rattle.demands.specs.Accepted.{AcceptsWrite}
 use Rattle.demands.specs.Events.{Event, after, samples, ticks, notes, ReadsAs}
 

@@ -14,7 +14,7 @@ use Rattle.chip.specs.declared.Chip.{Chip}
 use Rattle.chip.specs.Chip as chip
 use Rattle.ground.specs.declared.Outcome.the-variants.{Written}
 use Rattle.driver.specs.Refusals.{decodeAnswer}
-use Rattle.driver.specs.Streams.{decoded}
+use Rattle.streams.specs.Streams.{decoded}
 
 pub data Event : Type 0 where
   sample : ℕ → Event

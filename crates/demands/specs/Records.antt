@@ -10,7 +10,7 @@ use Rattle.ground.specs.Bits.{bitAt, bitNumber}
 use Rattle.ground.specs.Sizes.{addresses}
 use Rattle.state.specs.Record.{byte, settingsBytes, settingsOf, recordValid}
 use Rattle.simulator.specs.Simulator.{advanceBytes}
-use Rattle.driver.specs.Streams.{writeStream, readStream, commandStream}
+use Rattle.streams.specs.Streams.{writeStream, readStream, commandStream}
 use Rattle.demands.specs.Events.{ReadsAs}
 use Rattle.demands.specs.Accepted.{AcceptsWrite, AcceptsRead, AcceptsCommands}
 use Rattle.demands.specs.Demand2.{dueCommands, between}

@@ -9,7 +9,7 @@ use Rattle.ground.specs.declared.Outcome.{Outcome}
 use Rattle.ground.specs.declared.Outcome.the-variants.{Written, Refused}
 use Rattle.ground.specs.Outcomes.{left}
 use Rattle.driver.specs.Refusals.{writeAnswer}
-use Rattle.driver.specs.Streams.{writeStream}
+use Rattle.streams.specs.Streams.{writeStream}
 use Rattle.demands.specs.declared.Rehearsed.{Rehearsed}
 use Rattle.demands.specs.Events.{Event, sample, tick, after}
 use Rattle.demands.specs.Demand3.{Survives}

@@ -19,7 +19,7 @@ use Rattle.lines.specs.Samples.{levels}
 use Rattle.chip.specs.declared.Chip.{Chip}
 use Rattle.port.specs.declared.Port.{Port}
 use Rattle.chip.specs.Valid.{Valid}
-use Rattle.driver.specs.Streams.{writeId, addressBits, nibbleBits, writeStream}
+use Rattle.streams.specs.Streams.{writeId, addressBits, nibbleBits, writeStream}
 use Rattle.demands.specs.Accepted.{AcceptsWrite}
 use Rattle.demands.specs.Demand3.{completed}
 use Rattle.demands.specs.Events.{Event, after, samples, answers}

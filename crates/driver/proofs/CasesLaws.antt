@@ -6,16 +6,17 @@ use borrow.Author.Tests.{le-ltb}
 use lib.ListN.{length}
 use Rattle.ground.specs.declared.Outcome.the-variants.{Written}
 use Rattle.ground.specs.Outcomes.{RefusedWith}
-use Rattle.driver.specs.Streams.{writeStream, readStream}
+use Rattle.streams.specs.Lengths.{transferFrame, nibbleSamples}
+use Rattle.streams.specs.Streams.{writeStream, readStream}
 use Rattle.driver.specs.Refusals.{outsideMemory, writeAnswer, readAnswer}
-use Rattle.driver.proofs.StreamsLaws.{write-length, read-length}
+use Rattle.streams.proofs.StreamsLaws.{write-length, read-length}
 
 -- (c) the samples of one nibble and of 32
 pub write-one : (first : ℕ) (nibbles : List ℕ) → length nibbles ≡ 1 → length (writeStream first nibbles) ≡ 29
-write-one first nibbles e = write-length first nibbles ∙ ap (λ (n : ℕ). 21 + 8 * n) e
+write-one first nibbles e = write-length first nibbles ∙ ap (λ (n : ℕ). transferFrame + nibbleSamples * n) e
 
 pub write-thirty-two : (first : ℕ) (nibbles : List ℕ) → length nibbles ≡ 32 → length (writeStream first nibbles) ≡ 277
-write-thirty-two first nibbles e = write-length first nibbles ∙ ap (λ (n : ℕ). 21 + 8 * n) e
+write-thirty-two first nibbles e = write-length first nibbles ∙ ap (λ (n : ℕ). transferFrame + nibbleSamples * n) e
 
 pub read-one : (first : ℕ) → length (readStream first 1) ≡ 29
 read-one first = read-length first 1

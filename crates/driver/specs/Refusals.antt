@@ -1,28 +1,43 @@
 -- 01 "Driver streams", its table of refusals: what each call answers, as a ladder of the table's rows. Assumes nothing.
-use Prim.Native.Nat.{ℕ, _+_, _%_}
+use Prim.Native.Nat.{ℕ, _+_, _-_, _*_, _%_}
 use mathlib.Core.Bool.{Bool, not, _||_}
 use mathlib.Core.List.{List, [], _∷_}
 use lib.Dec.{eqb, ltb}
 use lib.ListN.{length}
 use Rattle.ground.specs.declared.Refusal.the-variants.{NothingAsked, OutOfRange, NibbleAbove, UndefinedCommand}
-use Rattle.ground.specs.declared.Refusal.the-variants.{OutputShort, NotedCount, NotedAbove}
+use Rattle.ground.specs.declared.Refusal.the-variants.{NotedCount, NotedAbove}
 use Rattle.ground.specs.declared.Outcome.{Outcome}
 use Rattle.ground.specs.Outcomes.{Rung, refusedIf, answered}
 use Rattle.ground.specs.Places.{lowest, somewhere}
 unfoldable pub use Rattle.commands.specs.Commands.{commandFault}
-use Rattle.driver.specs.Streams.{writeStream, readStream, commandStream, decoded}
+use Rattle.ground.specs.Sizes.{addresses}
+use Rattle.streams.specs.Lengths.{nibbleNotes}
+use Rattle.streams.specs.Sent.{noRoom}
+use Rattle.streams.specs.Streams.{writeStream, readStream, commandStream, decoded}
+
+-- The highest address.
+abbrev pub lastAddress : ℕ
+lastAddress = addresses - 1
+
+-- The most commands that one stream takes.
+abbrev pub mostCommands : ℕ
+mostCommands = 32
+
+-- The most notes that are decoded: those of every address.
+abbrev pub mostNotes : ℕ
+mostNotes = addresses * nibbleNotes
 
 -- What is asked for is nothing.
 abbrev pub nothing : ℕ → Bool
 nothing count = eqb count 0
 
--- The addresses from `first` on are not all among the 32: there is no such first one, or too few after it.
+-- The addresses from `first` on are not all in the memory: there is no such first one, or too few after it.
 unfoldable pub outsideMemory : ℕ → ℕ → Bool
-outsideMemory first count = ltb 31 first || ltb 32 (first + count)
+outsideMemory first count = ltb lastAddress first || ltb addresses (first + count)
 
 -- More commands than one stream takes.
 unfoldable pub tooMany : ℕ → Bool
-tooMany count = ltb 32 count
+tooMany count = ltb mostCommands count
 
 -- A nibble has four bits, a noted byte one.
 abbrev pub nibbleFault : ℕ → Bool
@@ -31,15 +46,11 @@ nibbleFault nibble = ltb 15 nibble
 abbrev pub notedFault : ℕ → Bool
 notedFault noted = ltb 1 noted
 
--- Noted bytes come in fours, 32 fours at most.
+-- Noted bytes come in fours, one for each address at most.
 unfoldable pub miscounted : ℕ → Bool
-miscounted count = eqb count 0 || ltb 128 count || not (eqb (count % 4) 0)
+miscounted count = eqb count 0 || ltb mostNotes count || not (eqb (count % nibbleNotes) 0)
 
--- The last rung of each: a buffer of `room` bytes is too short for the stream.
-abbrev pub noRoom : List ℕ → ℕ → Rung
-noRoom stream room = refusedIf (ltb room (length stream)) OutputShort
-
--- A write from `first` on: its tests in the table's order, and what it is answered.
+-- A write from `first` on: its tests in the table's order, too little room the last of each, and what it is answered.
 abbrev pub writeRefusals : ℕ → List ℕ → ℕ → List Rung
 writeRefusals first nibbles room =
     refusedIf (nothing (length nibbles)) NothingAsked

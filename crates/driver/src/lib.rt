@@ -1,17 +1,18 @@
 // The host's side of an HT1621: sample streams for writes, reads and commands, and the meaning of what a read noted.
 // Every call is answered: with the number of bytes that it wrote at the start of the buffer lent, or with the reason
-// why it wrote none. Assumes nothing.
+// why it wrote none. What is not refused here is for `streams` to write, which refuses last, a buffer too short.
+// Assumes nothing.
 ghost use lib.ListN.{length};
 ghost use Rattle.ground.specs.Outcomes.{ComesTo};
-ghost use Rattle.driver.specs.Streams.{writeStream, readStream, commandStream, decoded};
+ghost use Rattle.streams.specs.Streams.{writeStream, readStream, commandStream, decoded};
 ghost use Rattle.driver.specs.Refusals.{writeAnswer, readAnswer, commandAnswer, decodeAnswer};
-
-mod faults; // faults.rt: what a call is refused for
-mod notes; // notes.rt: noted bits made nibbles
-mod stream; // stream.rt: streams written into a buffer
-
 use ground::Outcome;
 use ground::Refusal;
+
+// The most commands that one stream takes, and the most notes that are decoded: those of every address.
+const MOST_COMMANDS: usize = 32;
+
+const MOST_NOTES: usize = ground::ADDRESSES * streams::NIBBLE_NOTES;
 
 // The stream that writes nibbles from the address `first` on: 21 bytes, and 8 for each nibble. Refused, in this order:
 // no nibble; addresses outside the 32; a nibble above 15, with its place; a buffer too short.
@@ -24,18 +25,17 @@ pub fn write(first: usize, nibbles: &[u8], out: &mut [u8]) -> Outcome
     if nibbles.len() == 0 {
         return Outcome::Refused(Refusal::NothingAsked);
     }
-    if faults::outside(first, nibbles.len()) {
+    if ground::ADDRESSES <= first {
+        return Outcome::Refused(Refusal::OutOfRange);
+    }
+    if ground::ADDRESSES - first < nibbles.len() {
         return Outcome::Refused(Refusal::OutOfRange);
     }
     let place = ground::first_above(nibbles, 15);
     if place < nibbles.len() {
         return Outcome::Refused(Refusal::NibbleAbove(place));
     }
-    if out.len() < 21 + 8 * nibbles.len() {
-        return Outcome::Refused(Refusal::OutputShort);
-    }
-    let sent = stream::whole_write(out, first as u8, nibbles);
-    Outcome::Written(sent)
+    streams::write(first as u8, nibbles, out)
 }
 
 // The stream that reads `count` nibbles from the address `first` on: 21 bytes, and 8 for each nibble. Refused, in this
@@ -49,14 +49,13 @@ pub fn read(first: usize, count: usize, out: &mut [u8]) -> Outcome
     if count == 0 {
         return Outcome::Refused(Refusal::NothingAsked);
     }
-    if faults::outside(first, count) {
+    if ground::ADDRESSES <= first {
         return Outcome::Refused(Refusal::OutOfRange);
     }
-    if out.len() < 21 + 8 * count {
-        return Outcome::Refused(Refusal::OutputShort);
+    if ground::ADDRESSES - first < count {
+        return Outcome::Refused(Refusal::OutOfRange);
     }
-    let asked = stream::whole_read(out, first as u8, count);
-    Outcome::Written(asked)
+    streams::read(first as u8, count, out)
 }
 
 // The stream that gives commands, each by the byte of its upper eight bits: 9 bytes, and 18 for each command. Refused,
@@ -70,18 +69,14 @@ pub fn commands(codes: &[u8], out: &mut [u8]) -> Outcome
     if codes.len() == 0 {
         return Outcome::Refused(Refusal::NothingAsked);
     }
-    if 32 < codes.len() {
+    if MOST_COMMANDS < codes.len() {
         return Outcome::Refused(Refusal::OutOfRange);
     }
     let place = commands::first_undefined(codes);
     if place < codes.len() {
         return Outcome::Refused(Refusal::UndefinedCommand(place));
     }
-    if out.len() < 9 + 18 * codes.len() {
-        return Outcome::Refused(Refusal::OutputShort);
-    }
-    let given = stream::whole_commands(out, codes);
-    Outcome::Written(given)
+    streams::commands(codes, out)
 }
 
 // The nibbles that a read noted, a byte for each: four noted bits, D0 first, make one. Refused, in this order: a number
@@ -92,16 +87,18 @@ pub fn decode(noted: &[u8], out: &mut [u8]) -> Outcome
         (decoded (now (noted .entry)))
         (now (out .entry)) r (now (out .exit)) ⌝ }
 {
-    if faults::miscounts(noted.len()) {
+    if noted.len() == 0 {
+        return Outcome::Refused(Refusal::NotedCount);
+    }
+    if MOST_NOTES < noted.len() {
+        return Outcome::Refused(Refusal::NotedCount);
+    }
+    if noted.len() % streams::NIBBLE_NOTES != 0 {
         return Outcome::Refused(Refusal::NotedCount);
     }
     let place = ground::first_above(noted, 1);
     if place < noted.len() {
         return Outcome::Refused(Refusal::NotedAbove(place));
     }
-    if out.len() < noted.len() / 4 {
-        return Outcome::Refused(Refusal::OutputShort);
-    }
-    let made = notes::put_decoded(out, noted);
-    Outcome::Written(made)
+    streams::decode(noted, out)
 }

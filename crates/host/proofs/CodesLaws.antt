@@ -18,9 +18,9 @@ use Rattle.ground.specs.declared.Outcome.the-variants.{Written, Refused}
 use Rattle.ground.specs.Outcomes.{succeeded, Rung, ladder}
 use Rattle.driver.specs.Refusals.{tooMany, miscounted, nibbleFault, notedFault, commandFault}
 use Rattle.driver.specs.Refusals.{writeRefusals, readRefusals, commandRefusals, decodeRefusals, writeAnswer, readAnswer, commandAnswer, decodeAnswer}
-use Rattle.driver.specs.Streams.{writeStream, readStream, commandStream, decoded}
+use Rattle.streams.specs.Streams.{writeStream, readStream, commandStream, decoded}
 use Rattle.driver.proofs.RefusalsLaws.{inside}
-use Rattle.driver.proofs.StreamsLaws.{write-length, read-length, commands-length, decoded-length}
+use Rattle.streams.proofs.StreamsLaws.{write-length, read-length, commands-length, decoded-length}
 use Rattle.host.specs.Host.{refusedCode, hostCode}
 
 number-small : (why : Refusal) → refusalNumber why ≤ 29

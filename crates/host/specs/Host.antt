@@ -11,7 +11,7 @@ use Rattle.ground.specs.declared.Outcome.{Outcome}
 use Rattle.ground.specs.declared.Outcome.the-variants.{Written, Refused}
 use Rattle.ground.specs.Outcomes.{outcomeNumber, outcomePlace, succeeded, left, Rung, refusedIf, ladder}
 use Rattle.chip.specs.PowerOn.{powerOnRefusals, poweredOn}
-use Rattle.driver.specs.Streams.{writeStream, readStream, commandStream, decoded}
+use Rattle.streams.specs.Streams.{writeStream, readStream, commandStream, decoded}
 use Rattle.driver.specs.Refusals.{writeAnswer, readAnswer, commandAnswer, decodeAnswer}
 use Rattle.state.specs.Record.{recordOf}
 

@@ -15,7 +15,7 @@ use Rattle.ground.specs.Outcomes.{left, Rung, ladder}
 use Rattle.ground.specs.Written.{over}
 use Rattle.ground.proofs.ChoiceLaws.{by-cases}
 use Rattle.ground.proofs.WrittenLaws.{length-over, take-over, drop-over}
-use Rattle.driver.specs.Streams.{writeStream, readStream, commandStream, decoded}
+use Rattle.streams.specs.Streams.{writeStream, readStream, commandStream, decoded}
 use Rattle.driver.specs.Refusals.{writeRefusals, readRefusals, commandRefusals, decodeRefusals, writeAnswer, readAnswer, commandAnswer, decodeAnswer}
 use Rattle.host.specs.Host.{hostCode, powerOnRecord, recordRefusals, powerOnAnswer, powerOnReturns, powerOnBytes}
 use Rattle.host.specs.Host.{writeReturns, writeBytes, readReturns, readBytes, commandsReturns, commandsBytes, decodeReturns, decodeBytes}

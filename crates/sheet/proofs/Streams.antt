@@ -8,7 +8,7 @@ use lib.ListN.{length}
 use Rattle.ground.specs.Bits.{bitNumber, bitAt}
 use Rattle.ground.specs.Values.{agree}
 use Rattle.ground.proofs.BitsLaws.{bitNumber-bitAt}
-use Rattle.driver.specs.Streams.{sendBits, opening, writeId, readId, commandId, addressBits, sendNibbles, readNibbles, sendCommands, writeStream, readStream, commandStream, decoded}
+use Rattle.streams.specs.Streams.{sendBits, opening, writeId, readId, commandId, addressBits, sendNibbles, readNibbles, sendCommands, writeStream, readStream, commandStream, decoded}
 use Rattle.sheet.specs.Bytes.{byte}
 use Rattle.sheet.specs.Streams.{sent, asked, ofAddress, ofNibbles, ofCommands, StreamsSheet}
 

@@ -7,7 +7,7 @@ use mathlib.Core.Logic.{_⊎_}
 use Prim.Native.Nat.{ℕ, _≤_, _<_}
 use lib.ListN.{length, take, drop}
 use Rattle.simulator.specs.Simulator.{stepReturns, stepBytes, advanceReturns, advanceBytes, pinsReturns, pinsBytes}
-use Rattle.driver.specs.Streams.{writeStream, readStream, commandStream, decoded}
+use Rattle.streams.specs.Streams.{writeStream, readStream, commandStream, decoded}
 use Rattle.host.specs.Host.{powerOnReturns, powerOnBytes, writeReturns, writeBytes, readReturns, readBytes}
 use Rattle.host.specs.Host.{commandsReturns, commandsBytes, decodeReturns, decodeBytes}
 use Rattle.sheet.specs.PowerOn.{freshRecord}

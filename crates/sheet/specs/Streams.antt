@@ -3,7 +3,7 @@ use mathlib.Core.Path.{_≡_}
 use mathlib.Core.List.{List, [], _∷_, _++_}
 use Prim.Native.Nat.{ℕ, zero, suc, _+_, _*_, _/_, _%_, _≤_, _<_}
 use lib.ListN.{length}
-use Rattle.driver.specs.Streams.{writeStream, readStream, commandStream, decoded}
+use Rattle.streams.specs.Streams.{writeStream, readStream, commandStream, decoded}
 use Rattle.sheet.specs.Bytes.{byte}
 
 -- ---- the shape of a stream

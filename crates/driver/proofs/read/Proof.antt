@@ -1,15 +1,12 @@
--- `driver::read` meets its contract: each refusal is the first that applies, and else the whole stream is written.
--- Assumes nothing.
-use mathlib.Core.Path.{_∙_, sym}
-use Prim.Native.Nat.{_+_, _*_}
+-- `driver::read` meets its contract: each refusal is the first that applies, and else the stream is sent. Assumes nothing.
+use Prim.Native.Nat.{_+_}
 use native.Mathlib.Omega.{arith}
 use borrow.Author.Needs.{needs}
 use borrow.Author.Tests.{lt-ltb, le-ltb, eq-eqb, ne-eqb}
-use lib.ListN.{length}
-use Rattle.ground.proofs.OutcomesLaws.{refuses, succeeds}
-use Rattle.driver.specs.Refusals.{readAnswer}
-use Rattle.driver.proofs.RefusalsLaws.{inside}
-use Rattle.driver.proofs.StreamsLaws.{read-length}
+use Rattle.ground.specs.Sizes.{addresses}
+use Rattle.ground.proofs.OutcomesLaws.{refuses}
+use Rattle.streams.proofs.SentLaws.{sends-due}
+use Rattle.driver.specs.Refusals.{lastAddress, outsideMemory, readAnswer}
 use Rattle.driver.proofs.read.Statement.{statement}
 use Rattle.driver.proofs.read.Tie as tie
 
@@ -17,74 +14,52 @@ returns : tie.Need-returns
 unfolding readAnswer
 returns c = refuses (simp (eq-eqb (c .before .before .args .count) 0 (omega arith)))
 
-outside-requires : tie.Need-outside-requires
-outside-requires c κs = search needs
-
 returns-2 : tie.Need-returns-2
-unfolding readAnswer
+unfolding readAnswer outsideMemory
 returns-2 c =
-    refuses
-    (simp (ne-eqb _ 0 (c .before .before .if1 .left), sym (c .before .outside .ensures) ∙ c .if2 .taken))
+    let first = c .before .before .before .args .first in
+    refuses (simp (ne-eqb _ 0 (c .before .if1 .left), lt-ltb lastAddress first (omega arith)))
 
-mul-if3 : tie.Need-mul-if3
-mul-if3 c = omega (arith, inside _ _ (sym (c .before .outside .ensures) ∙ c .if2 .left) .1)
-
-add-if3 : tie.Need-add-if3
-add-if3 c = omega (arith, inside _ _ (sym (c .before .outside .ensures) ∙ c .if2 .left) .1)
+sub-if3 : tie.Need-sub-if3
+sub-if3 c = search needs
 
 returns-3 : tie.Need-returns-3
-unfolding readAnswer
+unfolding readAnswer outsideMemory
 returns-3 c =
-    let passed = c .before in
-    let start = passed .before .before .before .before in
-    let room = length (start .args .out .now) in
+    let start = c .before .before .before .before in
+    let first = start .args .first in
     refuses
     (simp (
-      ne-eqb _ 0 (passed .before .before .if1 .left),
-      sym (passed .before .outside .ensures) ∙ passed .if2 .left,
-      read-length,
-      lt-ltb room (21 + 8 * start .args .count) (omega arith),
+      ne-eqb _ 0 (c .before .before .if1 .left),
+      le-ltb lastAddress first (omega arith),
+      lt-ltb addresses (first + start .args .count) (omega arith),
     ))
 
-cast-whole-read : tie.Need-cast-whole-read
-cast-whole-read c =
-    let passed = c .before .before in
-    omega (arith, inside _ _ (sym (passed .before .outside .ensures) ∙ passed .if2 .left) .0)
+cast-read : tie.Need-cast-read
+cast-read c = search needs
 
-whole-read-requires : tie.Need-whole-read-requires
-whole-read-requires c κs = simp read-length (omega arith)
+read-requires : tie.Need-read-requires
+read-requires c κs = search needs
 
 same-length : tie.Need-same-length
 same-length c = search needs
 
 returns-4 : tie.Need-returns-4
-unfolding readAnswer
+unfolding readAnswer outsideMemory
 returns-4 c =
     let called = c .before .before in
-    let passed = called .before .before .before in
-    let start = passed .before .before .before .before in
-    let room = length (start .args .out .now) in
-    succeeds
+    let some = called .before .before .before .before in
+    let start = some .before .before in
+    let first = start .args .first in
+    sends-due
     (simp (
-      ne-eqb _ 0 (passed .before .before .if1 .left),
-      sym (passed .before .outside .ensures) ∙ passed .if2 .left,
-      read-length,
-      le-ltb room (21 + 8 * start .args .count) (omega arith),
+      ne-eqb _ 0 (some .if1 .left),
+      le-ltb lastAddress first (omega arith),
+      le-ltb addresses (first + start .args .count) (omega arith),
     ))
-    (omega (arith, called .whole-read .ensures .cursor))
-    (called .whole-read .ensures .buffer)
+    (called .read .ensures)
 
 pub read-spec : {M : Type 1} → statement M
 read-spec =
     tie.close
-    (tie.spec
-    returns
-    outside-requires
-    returns-2
-    mul-if3
-    add-if3
-    returns-3
-    cast-whole-read
-    whole-read-requires
-    same-length
-    returns-4)
+    (tie.spec returns returns-2 sub-if3 returns-3 cast-read read-requires same-length returns-4)

@@ -1,120 +1,98 @@
--- `driver::write` meets its contract: each refusal is the first that applies, and else the whole stream is written.
--- Assumes nothing.
-use mathlib.Core.Path.{_∙_, sym}
-use Prim.Native.Nat.{_+_, _*_}
+-- `driver::write` meets its contract: each refusal is the first that applies, and else the stream is sent. Assumes nothing.
+use mathlib.Core.Path.{sym}
+use Prim.Native.Nat.{_+_}
 use native.Mathlib.Omega.{arith}
 use borrow.Author.Needs.{needs}
 use borrow.Author.Tests.{lt-ltb, le-ltb, eq-eqb, ne-eqb}
 use lib.ListN.{length}
-use Rattle.ground.proofs.OutcomesLaws.{refuses, succeeds}
-use Rattle.driver.specs.Refusals.{writeAnswer}
-use Rattle.driver.proofs.RefusalsLaws.{inside}
-use Rattle.driver.proofs.StreamsLaws.{write-length}
+use Rattle.ground.specs.Sizes.{addresses}
+use Rattle.ground.proofs.OutcomesLaws.{refuses}
+use Rattle.streams.proofs.SentLaws.{sends-due}
+use Rattle.driver.specs.Refusals.{lastAddress, outsideMemory, writeAnswer}
 use Rattle.driver.proofs.write.Statement.{statement}
 use Rattle.driver.proofs.write.Tie as tie
 
 returns : tie.Need-returns
 unfolding writeAnswer
-returns c =
-    let count = length (c .before .before .before .args .nibbles .now) in
-    refuses (simp (eq-eqb count 0 (omega arith)))
-
-outside-requires : tie.Need-outside-requires
-outside-requires c κs = search needs
+returns c = refuses (simp (eq-eqb (length (c .before .before .before .args .nibbles .now)) 0 (omega arith)))
 
 returns-2 : tie.Need-returns-2
-unfolding writeAnswer
+unfolding writeAnswer outsideMemory
 returns-2 c =
+    let start = c .before .before .before .before in
+    refuses (simp (ne-eqb _ 0 (c .before .if1 .left), lt-ltb lastAddress (start .args .first) (omega arith)))
+
+sub-if3 : tie.Need-sub-if3
+sub-if3 c = search needs
+
+returns-3 : tie.Need-returns-3
+unfolding writeAnswer outsideMemory
+returns-3 c =
+    let start = c .before .before .before .before .before in
+    let first = start .args .first in
     refuses
-    (simp (ne-eqb _ 0 (c .before .before .if1 .left), sym (c .before .outside .ensures) ∙ c .if2 .taken))
+    (simp (
+      ne-eqb _ 0 (c .before .before .if1 .left),
+      le-ltb lastAddress first (omega arith),
+      lt-ltb addresses (first + length (start .args .nibbles .now)) (omega arith),
+    ))
 
 first-above-requires : tie.Need-first-above-requires
 first-above-requires c κs = search needs
 
-returns-3 : tie.Need-returns-3
-unfolding writeAnswer
-returns-3 c =
-    let passed = c .before .before in
-    refuses
-    (simp (
-      ne-eqb _ 0 (passed .before .before .if1 .left),
-      sym (passed .before .outside .ensures) ∙ passed .if2 .left,
-      sym (c .before .first-above .ensures),
-      lt-ltb _ _ (c .if3 .taken),
-    ))
-
-mul-if4 : tie.Need-mul-if4
-mul-if4 c =
-    let passed = c .before .before in
-    omega (arith, inside _ _ (sym (passed .before .outside .ensures) ∙ passed .if2 .left) .1)
-
-add-if4 : tie.Need-add-if4
-add-if4 c =
-    let passed = c .before .before in
-    omega (arith, inside _ _ (sym (passed .before .outside .ensures) ∙ passed .if2 .left) .1)
-
 returns-4 : tie.Need-returns-4
-unfolding writeAnswer
+unfolding writeAnswer outsideMemory
 returns-4 c =
-    let passed = c .before .before .before in
-    let start = passed .before .before .before .before .before in
-    let count = length (start .args .nibbles .now) in
-    let room = length (start .args .out .now) in
+    let some = c .before .before .before .before in
+    let start = some .before .before .before in
+    let first = start .args .first in
     refuses
     (simp (
-      ne-eqb _ 0 (passed .before .before .if1 .left),
-      sym (passed .before .outside .ensures) ∙ passed .if2 .left,
-      sym (c .before .before .first-above .ensures),
-      le-ltb _ _ (c .before .if3 .left),
-      write-length,
-      lt-ltb room (21 + 8 * count) (omega arith),
+      ne-eqb _ 0 (some .if1 .left),
+      le-ltb lastAddress first (omega arith),
+      le-ltb addresses (first + length (start .args .nibbles .now)) (omega arith),
+      sym (c .before .first-above .ensures),
+      lt-ltb _ _ (c .if4 .taken),
     ))
 
-cast-whole-write : tie.Need-cast-whole-write
-cast-whole-write c =
-    let passed = c .before .before .before .before in
-    omega (arith, inside _ _ (sym (passed .before .outside .ensures) ∙ passed .if2 .left) .0)
+cast-write : tie.Need-cast-write
+cast-write c = search needs
 
-whole-write-requires : tie.Need-whole-write-requires
-whole-write-requires c κs = simp write-length (omega arith)
+write-requires : tie.Need-write-requires
+write-requires c κs = search needs
 
 same-length : tie.Need-same-length
 same-length c = search needs
 
 returns-5 : tie.Need-returns-5
-unfolding writeAnswer
+unfolding writeAnswer outsideMemory
 returns-5 c =
     let called = c .before .before in
-    let clean = called .before .before .before in
-    let passed = clean .before .before in
-    let start = passed .before .before .before .before .before in
-    let count = length (start .args .nibbles .now) in
-    let room = length (start .args .out .now) in
-    succeeds
+    let clean = called .before .before in
+    let some = clean .before .before .before .before in
+    let start = some .before .before .before in
+    let first = start .args .first in
+    sends-due
     (simp (
-      ne-eqb _ 0 (passed .before .before .if1 .left),
-      sym (passed .before .outside .ensures) ∙ passed .if2 .left,
+      ne-eqb _ 0 (some .if1 .left),
+      le-ltb lastAddress first (omega arith),
+      le-ltb addresses (first + length (start .args .nibbles .now)) (omega arith),
       sym (clean .before .first-above .ensures),
-      le-ltb _ _ (clean .if3 .left),
-      write-length,
-      le-ltb room (21 + 8 * count) (omega arith),
+      le-ltb _ _ (clean .if4 .left),
     ))
-    (omega (arith, called .whole-write .ensures .cursor))
-    (called .whole-write .ensures .buffer)
+    (called .write .ensures)
 
 pub write-spec : {M : Type 1} → statement M
 write-spec =
     tie.close
     (tie.spec
     returns
-    outside-requires
     returns-2
-    first-above-requires
+    sub-if3
     returns-3
-    mul-if4
-    add-if4
+    first-above-requires
     returns-4
-    cast-whole-write
-    whole-write-requires
+    cast-write
+    write-requires
     same-length
     returns-5)

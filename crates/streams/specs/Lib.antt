@@ -1,0 +1,4 @@
+pub mod Lengths
+pub mod Sent
+pub mod Streams
+pub mod Weights
