@@ -1,49 +1,51 @@
--- Laws of decimal numbers: how long one is, that it has the digits of its tenth and then one more, and what a store after
--- some bytes makes. Assumes nothing.
-use mathlib.Core.Path.{_≡_, refl, ap, sym, _∙_, subst}
+-- Laws of decimal numbers: which digits one of each length has, and how long one is. Assumes nothing.
+use mathlib.Core.Path.{_≡_, refl, ap, _∙_}
 use mathlib.Core.Bool.{Bool, true, false}
 use mathlib.Core.List.{List, [], _∷_, _++_}
-use Prim.Native.Nat.{ℕ, zero, suc, _+_, _^_, _/_, _%_, _≤_, _<_}
+use Prim.Native.Nat.{ℕ, zero, suc, _+_, _/_, _%_, _≤_, _<_}
 use native.Mathlib.Omega.{arith}
-use native.Mathlib.Nat.{div-lt-iff-lt-mul, pow-suc}
-use borrow.Author.Tests.{lt-ltb, le-ltb, ltb-true, ltb-false}
+use borrow.Author.Tests.{lt-ltb, le-ltb}
 use lib.Dec.{ltb}
-use lib.ListN.{length, set, length-append}
+use lib.ListN.{length, length-append}
 use Rattle.ground.specs.Written.{Wrote}
-use Rattle.ground.proofs.WrittenLaws.{length-over, set-over, wrote-then}
+use Rattle.ground.proofs.WrittenLaws.{length-over}
 use Rattle.transcript.specs.Listing.{digits, decimal, field}
 
-digits-low : (most n : ℕ) → n < 10 → digits (suc most) n ≡ (48 + n) ∷ []
+-- the digits of the tenth, and then the last
+next-digit : (most n : ℕ) {more : List ℕ} {last : ℕ} → 10 ≤ n → digits most (n / 10) ≡ more → last ≡ 48 + n % 10
+    → digits (suc most) n ≡ more ++ last ∷ []
 unfolding digits
-digits-low most n h = rw (lt-ltb n 10 h)
+next-digit most n h e d = rw (le-ltb n 10 h, e, d)
 
-digits-high : (most n : ℕ) → 10 ≤ n → digits (suc most) n ≡ digits most (n / 10) ++ (48 + n % 10) ∷ []
+-- a number of each length is its digits, where there is room for them
+pub one-digit : (most n : ℕ) {ones : ℕ} → n < 10 → ones ≡ 48 + n % 10 → digits (suc most) n ≡ ones ∷ []
 unfolding digits
-digits-high most n h = rw (le-ltb n 10 h)
+one-digit most n {ones} h d = rw (lt-ltb n 10 h) (ap (λ (byte : ℕ). byte ∷ []) (omega arith))
 
-tenth : (most n : ℕ) → n < 10 ^ suc (suc most) → n / 10 < 10 ^ suc most
-tenth most n h = div-lt-iff-lt-mul {k = 10} (omega arith) .1 (subst (λ (m : ℕ). n < m) (pow-suc 10 (suc most)) h)
+pub two-digits : (most n : ℕ) {tens ones : ℕ} → 10 ≤ n → n < 100 → tens ≡ 48 + n / 10 % 10 → ones ≡ 48 + n % 10
+    → digits (suc (suc most)) n ≡ tens ∷ ones ∷ []
+two-digits most n h k t d = next-digit (suc most) n h (one-digit most (n / 10) (omega arith) t) d
 
--- where there are digits enough, one more makes no difference
-enough : (most n : ℕ) (b : Bool) → ltb n 10 ≡ b → n < 10 ^ suc most → digits (suc most) n ≡ digits (suc (suc most)) n
-enough zero n true e h = digits-low 0 n (ltb-true n 10 e) ∙ sym (digits-low 1 n (ltb-true n 10 e))
-enough zero n false e h = absurd (omega (arith, ltb-false n 10 e))
-enough (suc most) n true e h =
-    digits-low (suc most) n (ltb-true n 10 e) ∙ sym (digits-low (suc (suc most)) n (ltb-true n 10 e))
-enough (suc most) n false e h =
-    digits-high (suc most) n (ltb-false n 10 e)
-    ∙ ap (λ (t : List ℕ). t ++ (48 + n % 10) ∷ []) (enough most (n / 10) (ltb (n / 10) 10) refl (tenth most n h))
-    ∙ sym (digits-high (suc (suc most)) n (ltb-false n 10 e))
+pub three-digits : (most n : ℕ) {hundreds tens ones : ℕ} → 100 ≤ n → n < 1000
+    → hundreds ≡ 48 + n / 100 % 10 → tens ≡ 48 + n / 10 % 10 → ones ≡ 48 + n % 10
+    → digits (suc (suc (suc most))) n ≡ hundreds ∷ tens ∷ ones ∷ []
+three-digits most n h k c t d =
+    next-digit (suc (suc most)) n (omega arith)
+    (two-digits most (n / 10) (omega arith) (omega arith) (omega arith) t) d
 
-pub decimal-low : (n : ℕ) → n < 10 → decimal n ≡ (48 + n) ∷ []
-unfolding decimal
-decimal-low n h = digits-low 4 n h
+pub four-digits : (most n : ℕ) {thousands hundreds tens ones : ℕ} → 1000 ≤ n → n < 10000
+    → thousands ≡ 48 + n / 1000 % 10 → hundreds ≡ 48 + n / 100 % 10 → tens ≡ 48 + n / 10 % 10 → ones ≡ 48 + n % 10
+    → digits (suc (suc (suc (suc most)))) n ≡ thousands ∷ hundreds ∷ tens ∷ ones ∷ []
+four-digits most n h k m c t d =
+    next-digit (suc (suc (suc most))) n (omega arith)
+    (three-digits most (n / 10) (omega arith) (omega arith) (omega arith) (omega arith) t) d
 
-pub decimal-high : (n : ℕ) → 10 ≤ n → n < 100000 → decimal n ≡ decimal (n / 10) ++ (48 + n % 10) ∷ []
-unfolding decimal
-decimal-high n h small =
-    digits-high 4 n h
-    ∙ ap (λ (t : List ℕ). t ++ (48 + n % 10) ∷ []) (enough 3 (n / 10) (ltb (n / 10) 10) refl (omega arith))
+pub five-digits : (n : ℕ) {myriads thousands hundreds tens ones : ℕ} → 10000 ≤ n → n < 100000
+    → myriads ≡ 48 + n / 10000 % 10 → thousands ≡ 48 + n / 1000 % 10 → hundreds ≡ 48 + n / 100 % 10
+    → tens ≡ 48 + n / 10 % 10 → ones ≡ 48 + n % 10 → digits 5 n ≡ myriads ∷ thousands ∷ hundreds ∷ tens ∷ ones ∷ []
+five-digits n h k x m c t d =
+    next-digit 4 n (omega arith)
+    (four-digits 0 (n / 10) (omega arith) (omega arith) (omega arith) (omega arith) (omega arith) t) d
 
 length-digits : (most n : ℕ) (b : Bool) → ltb n 10 ≡ b → length (digits most n) ≤ most
 unfolding digits
@@ -56,10 +58,6 @@ pub length-decimal : (n : ℕ) → length (decimal n) ≤ 5
 unfolding decimal
 length-decimal n = length-digits 5 n (ltb n 10) refl
 
-pub length-decimal-high : (n : ℕ) → 10 ≤ n → n < 100000 → length (decimal n) ≡ length (decimal (n / 10)) + 1
-length-decimal-high n h small =
-    ap length (decimal-high n h small) ∙ length-append (decimal (n / 10)) ((48 + n % 10) ∷ [])
-
 pub length-field : (n after : ℕ) → length (field n after) ≤ 6
 unfolding field
 length-field n after = simp length-append (omega (arith, length-decimal n))
@@ -69,33 +67,8 @@ pub wrote-length : {a b : List ℕ} (bytes : List ℕ) {at k : ℕ} → Wrote a 
     → length b ≡ length a
 wrote-length {a} {b} bytes {at} {k} w fits = ap length (w .buffer) ∙ length-over a bytes at fits
 
--- a store is a write of one byte
-pub set-wrote : (buffer : List ℕ) (at byte : ℕ) → at < length buffer
-    → Wrote buffer at (byte ∷ []) (set buffer at byte) (at + 1)
-set-wrote buffer at byte h = record { cursor = refl; buffer = set-over buffer at byte h }
-
--- and one after some bytes, of these and one more
-pub wrote-one : {a b : List ℕ} (bytes : List ℕ) (byte : ℕ) {at k : ℕ} → Wrote a at bytes b k
-    → at + length bytes + 1 ≤ length a → Wrote a at (bytes ++ byte ∷ []) (set b k byte) (k + 1)
-wrote-one {a} {b} bytes byte {at} {k} w fits =
-    let same : length b ≡ length a = wrote-length bytes w (omega arith) in
-    wrote-then bytes (byte ∷ []) w (set-wrote b k byte (omega (arith, w .cursor))) fits
-
--- a number below ten is its digit
-pub digit-wrote : (buffer : List ℕ) (at n : ℕ) → n < 10 → at < length buffer
-    → Wrote buffer at (decimal n) (set buffer at (48 + n)) (at + 1)
-digit-wrote buffer at n low h =
-    subst (λ (bytes : List ℕ). Wrote buffer at bytes (set buffer at (48 + n)) (at + 1)) (sym (decimal-low n low))
-    (set-wrote buffer at (48 + n) h)
-
--- and any other that of its tenth and its last digit
-pub last-wrote : {a b : List ℕ} {at k : ℕ} (n : ℕ) → 10 ≤ n → n < 100000 → at + length (decimal n) ≤ length a
-    → Wrote a at (decimal (n / 10)) b k → Wrote a at (decimal n) (set b k (48 + n % 10)) (k + 1)
-last-wrote {a} {b} {at} {k} n high small fits w =
-    subst (λ (bytes : List ℕ). Wrote a at bytes (set b k (48 + n % 10)) (k + 1)) (sym (decimal-high n high small))
-    (wrote-one (decimal (n / 10)) (48 + n % 10) w (omega (arith, length-decimal-high n high small)))
-
-pub field-wrote : {a b : List ℕ} {at k : ℕ} (n after : ℕ) → Wrote a at (decimal n) b k → at + 6 ≤ length a
-    → Wrote a at (field n after) (set b k after) (k + 1)
-unfolding field
-field-wrote {a} {b} {at} {k} n after w fits = wrote-one (decimal n) after w (omega (arith, length-decimal n))
+-- the digits and then the byte that ends them
+pub field-wrote : {a b : List ℕ} {at k : ℕ} (n after : ℕ) {bytes : List ℕ} → digits 5 n ≡ bytes
+    → Wrote a at (bytes ++ after ∷ []) b k → Wrote a at (field n after) b k
+unfolding decimal field
+field-wrote n after e w = rw e w

@@ -9,6 +9,7 @@ use lib.ListN.{length, drop, getD, length-drop, drop-of-length-le}
 use lib.Seq.{drop-cons}
 use Rattle.ground.specs.Written.{Wrote}
 use Rattle.ground.proofs.WrittenLaws.{wrote-then}
+use Rattle.settings.specs.declared.Settings.{Settings}
 use Rattle.chip.specs.declared.Chip.{Chip}
 use Rattle.chip.specs.declared.Stepped.{Stepped}
 use Rattle.chip.specs.Chip.{stepped, ticked}
@@ -91,13 +92,13 @@ module _ {input before now : List ℕ} {chip : Chip} {at samples ticks i : ℕ}
   unfolding listFrom
   going-ends {after} {k} none w = g .onward after k (rw (drop-of-length-le input none) w)
 
-  -- as the code has it: the chips are what `step` and `tick` hand back
+  -- as the code has it: the chip is what `step` hands back, and its settings what `ticked` does
   pub going-steps : (value : ℕ) (result : Stepped) {then : List ℕ} {next : ℕ} → result ≡ stepped chip value
       → i < length input → Sample value ≡ classOf (getD input i 0)
       → Wrote now at (answerLine (samples + 1) (result .answer)) then next
       → 24 * length input + 16 ≤ length before → Going input before then (result .chip) next (samples + 1) ticks (i + 1)
   going-steps value result same more e w fits = rw same (going-samples value more e (rw same at w) fits)
 
-  pub going-counts : (result : Chip) → result ≡ ticked chip → i < length input → Tick ≡ classOf (getD input i 0)
-      → Going input before now result at samples (ticks + 1) (i + 1)
+  pub going-counts : (result : Settings) → result ≡ ticked chip .settings → i < length input → Tick ≡ classOf (getD input i 0)
+      → Going input before now (record { port = chip .port; settings = result }) at samples (ticks + 1) (i + 1)
   going-counts result same more e = rw same (going-ticks more e)

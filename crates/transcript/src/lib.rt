@@ -1,13 +1,13 @@
 // The listing as one function, from the bytes of the input to the bytes of the output. Assumes nothing.
 ghost use mathlib.Core.Path.{_≡_};
 ghost use mathlib.Core.Bool.{_&&_};
-ghost use Prim.Native.Nat.{_+_, _*_, _≤_, _<_};
+ghost use Prim.Native.Nat.{_+_, _*_, _%_, _≤_, _<_};
 ghost use lib.Dec.{leb};
 ghost use lib.ListN.{length};
 ghost use Rattle.ground.specs.Outcomes.{ComesTo};
 ghost use Rattle.ground.specs.Written.{Wrote};
 ghost use Rattle.chip.specs.PowerOn.{emptyChip};
-ghost use Rattle.transcript.specs.Listing.{classOf, decimal, field, line, answerLine, badLine, endLine, long};
+ghost use Rattle.transcript.specs.Listing.{classOf, field, line, answerLine, badLine, endLine, long};
 ghost use Rattle.transcript.specs.Listing.{listFrom, listing, roomFor, listAnswer};
 use answers::Answer;
 use chip::Chip;
@@ -63,18 +63,11 @@ fn put_bytes(out: &mut [u8], at: usize, bytes: &[u8]) -> usize
     at + i
 }
 
-// A number in decimal at a cursor.
-fn put_decimal(out: &mut [u8], at: usize, n: u32) -> usize
-    requires { ⌜ (n < 100000) × (at + length (decimal n) ≤ length (now out)) ⌝ }
-    ensures { λ r. ⌜ Wrote (now (out .entry)) at (decimal n) (now (out .exit)) r ⌝ }
+// The last digit of a number.
+fn digit(n: u32) -> u8
+    ensures { λ r. ⌜ r ≡ 48 + n % 10 ⌝ }
 {
-    if n < 10 {
-        out[at] = 48 + n as u8;
-        return at + 1;
-    }
-    let last = put_decimal(out, at, n / 10);
-    out[last] = 48 + (n % 10) as u8;
-    last + 1
+    48 + (n % 10) as u8
 }
 
 // A number in decimal and the byte that ends it.
@@ -82,9 +75,27 @@ fn put_field(out: &mut [u8], at: usize, n: u32, after: u8) -> usize
     requires { ⌜ (n < 100000) × (at + 6 ≤ length (now out)) ⌝ }
     ensures { λ r. ⌜ Wrote (now (out .entry)) at (field n after) (now (out .exit)) r ⌝ }
 {
-    let last = put_decimal(out, at, n);
-    out[last] = after;
-    last + 1
+    let ones = digit(n);
+    if n < 10 {
+        return put_bytes(out, at, &[ones, after]);
+    }
+    let tens = digit(n / 10);
+    if n < 100 {
+        return put_bytes(out, at, &[tens, ones, after]);
+    }
+    let hundreds = digit(n / 100);
+    if n < 1000 {
+        return put_bytes(out, at, &[hundreds, tens, ones, after]);
+    }
+    let thousands = digit(n / 1000);
+    if n < 10000 {
+        return put_bytes(out, at, &[thousands, hundreds, tens, ones, after]);
+    }
+    put_bytes(
+        out,
+        at,
+        &[digit(n / 10000), thousands, hundreds, tens, ones, after],
+    )
 }
 
 // A line of four numbers.
@@ -103,16 +114,14 @@ fn put_answer(out: &mut [u8], at: usize, number: u32, answer: Answer) -> usize
     requires { ⌜ (number < 100000) × (at + 24 ≤ length (now out)) ⌝ }
     ensures { λ r. ⌜ Wrote (now (out .entry)) at (answerLine number answer) (now (out .exit)) r ⌝ }
 {
-    let kind = answers::number_of(answer);
-    if kind == 0 {
+    let told = answer.numbers();
+    if told.number == 0 {
         return at;
     }
-    if kind == 4 {
+    if told.number == 4 {
         return at;
     }
-    let first = answers::first_detail(answer);
-    let second = answers::second_detail(answer);
-    put_line(out, at, number, kind, first, second)
+    put_line(out, at, number, told.number, told.first, told.second)
 }
 
 // The line that stops at a byte.
@@ -147,7 +156,9 @@ fn put_lines(input: &[u8], out: &mut [u8]) -> usize
     requires { ⌜ (length (now input) ≤ 65536) × (24 * length (now input) + 16 ≤ length (now out)) ⌝ }
     ensures { λ r. ⌜ Wrote (now (out .entry)) 0 (listFrom emptyChip 0 0 0 (now (input .entry))) (now (out .exit)) r ⌝ }
 {
-    let mut chip = chip::empty();
+    let empty = chip::empty();
+    let mut port = empty.port;
+    let mut settings = empty.settings;
     let mut at: usize = 0;
     let mut samples: u32 = 0;
     let mut ticks: u32 = 0;
@@ -155,15 +166,17 @@ fn put_lines(input: &[u8], out: &mut [u8]) -> usize
     while i < input.len() {
         match classify(input[i]) {
             Class::Sample(value) => {
-                let stepped = chip.step(value);
+                let stepped = Chip { port, settings }.step(value);
                 let answer = stepped.answer;
-                chip = stepped.chip;
+                let chip = stepped.chip;
+                port = chip.port;
+                settings = chip.settings;
                 samples += 1;
                 at = put_answer(out, at, samples, answer);
                 i += 1;
             }
             Class::Tick => {
-                chip = chip.tick();
+                settings = ticks::ticked(settings);
                 ticks += 1;
                 i += 1;
             }

@@ -10,16 +10,17 @@ use Rattle.transcript.proofs.put_lines.Statement.{statement}
 use Rattle.transcript.proofs.put_lines.Tie as tie
 
 abbrev Inv-loop : tie.InvT-loop
-Inv-loop input out₀ chip₀ at₀ samples₀ ticks₀ i₀ out chip at samples ticks i = Going input out₀ out chip at samples ticks i
+Inv-loop input out₀ port₀ settings₀ at₀ samples₀ ticks₀ i₀ out port settings at samples ticks i =
+    Going input out₀ out (record { port = port; settings = settings }) at samples ticks i
 
 abbrev μ-loop : tie.MeasureT-loop
-μ-loop input out₀ chip₀ at₀ samples₀ ticks₀ i₀ out chip at samples ticks i = length input - i
+μ-loop input out₀ port₀ settings₀ at₀ samples₀ ticks₀ i₀ out port settings at samples ticks i = length input - i
 
 empty-requires : tie.Need-empty-requires Inv-loop μ-loop
 empty-requires c κs = search needs
 
 loop-holds : tie.Need-loop-holds Inv-loop μ-loop
-loop-holds c = rw (c .empty .ensures) (going-starts _ _)
+loop-holds c = rw (c .before .before .empty .ensures) (going-starts _ _)
 
 shared-slice-read-classify : tie.Need-shared-slice-read-classify Inv-loop μ-loop
 shared-slice-read-classify c = search needs
@@ -34,26 +35,36 @@ step-requires : tie.Need-step-requires Inv-loop μ-loop
 step-requires c κs = search needs
 
 add-samples : tie.Need-add-samples Inv-loop μ-loop
-add-samples c = search needs
+add-samples c =
+    let at-value : _ = c .before .before .before .before .before in
+    let at-loop : _ = at-value .before .before .before .before .before in
+    let entry : _ = at-loop .before .before .before .before .before .before in
+    omega (arith, at-loop .loop .inv .reach, at-loop .loop .inv .counted, entry .pre .0)
 
 put-answer-requires : tie.Need-put-answer-requires Inv-loop μ-loop
 put-answer-requires c κs =
-    let g : _ = c .before .before .before .before .before .before .before .before .before .loop .inv in
+    let at-match : _ = c .before .before .before .before .before .before .before in
+    let g : _ = at-match .before .before .before .before .loop .inv in
     (omega arith, omega arith)
 
 add-i : tie.Need-add-i Inv-loop μ-loop
-add-i c = search needs
+add-i c =
+    let at-step : _ = c .before .before .before .before .before .before .before in
+    let at-classify : _ = at-step .before .before .before .before in
+    let at-loop : _ = at-classify .before .before .before in
+    let entry : _ = at-loop .before .before .before .before .before .before in
+    omega (arith, at-loop .loop .inv .reach, at-loop .loop .inv .counted, entry .pre .0)
 
 loop-less : tie.Need-loop-less Inv-loop μ-loop
 loop-less c = search needs
 
 loop-again : tie.Need-loop-again Inv-loop μ-loop
 loop-again c =
-    let at-step : _ = c .before .before .before .before .before in
+    let at-step : _ = c .before .before .before .before .before .before .before in
     let at-value : _ = at-step .before .before in
     let at-classify : _ = at-value .before .before in
     let at-loop : _ = at-classify .before .before .before in
-    let entry : _ = at-loop .before .before .before .before in
+    let entry : _ = at-loop .before .before .before .before .before .before in
     going-steps (at-loop .loop .inv) _ (at-step .step .result) (at-step .step .ensures) (omega arith)
     (sym (at-value .value .given .1) ∙ at-classify .classify .ensures) (c .before .before .put-answer .ensures)
     (entry .pre .1)
@@ -61,14 +72,22 @@ loop-again c =
 enum-told : tie.Need-enum-told Inv-loop μ-loop
 enum-told c = search needs
 
-tick-requires : tie.Need-tick-requires Inv-loop μ-loop
-tick-requires c κs = search needs
+ticked-requires : tie.Need-ticked-requires Inv-loop μ-loop
+ticked-requires c κs = search needs
 
 add-ticks : tie.Need-add-ticks Inv-loop μ-loop
-add-ticks c = search needs
+add-ticks c =
+    let at-classify : _ = c .before .before .before in
+    let at-loop : _ = at-classify .before .before .before in
+    let entry : _ = at-loop .before .before .before .before .before .before in
+    omega (arith, at-loop .loop .inv .reach, at-loop .loop .inv .counted, entry .pre .0)
 
 add-i-2 : tie.Need-add-i-2 Inv-loop μ-loop
-add-i-2 c = search needs
+add-i-2 c =
+    let at-classify : _ = c .before .before .before in
+    let at-loop : _ = at-classify .before .before .before in
+    let entry : _ = at-loop .before .before .before .before .before .before in
+    omega (arith, at-loop .loop .inv .reach, at-loop .loop .inv .counted, entry .pre .0)
 
 loop-less-2 : tie.Need-loop-less-2 Inv-loop μ-loop
 loop-less-2 c = search needs
@@ -77,7 +96,7 @@ loop-again-2 : tie.Need-loop-again-2 Inv-loop μ-loop
 loop-again-2 c =
     let at-classify : _ = c .before .before .before in
     let at-loop : _ = at-classify .before .before .before in
-    going-counts (at-loop .loop .inv) (c .tick .result) (c .tick .ensures) (omega arith)
+    going-counts (at-loop .loop .inv) (c .ticked .result) (c .ticked .ensures) (omega arith)
     (sym (c .before .enum-told .given .1) ∙ at-classify .classify .ensures)
 
 enum-told-2 : tie.Need-enum-told-2 Inv-loop μ-loop
@@ -148,7 +167,7 @@ put-lines-spec =
     loop-less
     loop-again
     enum-told
-    tick-requires
+    ticked-requires
     add-ticks
     add-i-2
     loop-less-2
