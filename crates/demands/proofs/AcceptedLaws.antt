@@ -16,6 +16,7 @@ use Rattle.ground.proofs.WrittenLaws.{take-over}
 use Rattle.ground.proofs.PlacesLaws.{lowest-below, none-above}
 use Rattle.commands.specs.Commands.{codeMeaning}
 use Rattle.port.specs.Valid.{Nibbles}
+use Rattle.port.proofs.ValidLaws.{nibbles-from}
 use Rattle.ground.specs.declared.Outcome.the-variants.{Written}
 use Rattle.ground.specs.Outcomes.{left}
 use Rattle.driver.specs.Refusals.{outsideMemory, nibbleFault, commandFault, writeAnswer}
@@ -25,10 +26,6 @@ use Rattle.streams.proofs.StreamsLaws.{write-length}
 use Rattle.demands.specs.Accepted.{AcceptsWrite, AcceptsRead, AcceptsCommands}
 use Rattle.demands.proofs.Accepted.{accepted}
 use Rattle.demands.proofs.CommandLaws.{Defined}
-
-nibbles-from : (ns : List ℕ) → ((k : ℕ) → k < length ns → getD ns k 0 ≤ 15) → Nibbles ns
-nibbles-from [] f = tt
-nibbles-from (n ∷ ns) f = (suc-le-suc (f 0 (suc-le-suc zero-le)), nibbles-from ns (λ k h. f (suc k) (suc-le-suc h)))
 
 -- a code above 255 has no meaning
 defined-byte : (code : ℕ) → commandFault code ≡ false → code < 256

@@ -3,6 +3,7 @@ pub mod AcceptedLaws
 pub mod CallsLaws
 pub mod Cases
 pub mod CommandLaws
+pub mod CutLaws
 pub mod Demand2
 pub mod Demand3
 pub mod Determined

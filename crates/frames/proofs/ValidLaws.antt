@@ -9,6 +9,7 @@ use native.Mathlib.Omega.{arith}
 use lib.Dec.{eqb, ltb}
 use borrow.Author.Tests.{ltb-true}
 use Rattle.ground.specs.Bits.{bitNumber}
+use Rattle.ground.proofs.BitsLaws.{bitNumber-small}
 use Rattle.ground.proofs.ChoiceLaws.{either, by-cases}
 use Rattle.lines.specs.declared.Edge.the-variants.{Rests, Closes, Opens}
 use Rattle.phases.specs.declared.Phase.{Phase}
@@ -26,15 +27,11 @@ use Rattle.frames.specs.Valid.{UpshotValid}
 abbrev Kept : Framed → Type 0
 Kept f = FrameValid false (f .line) (f .phase) × UpshotValid (f .upshot)
 
-bit-small : (b : Bool) → bitNumber b ≤ 1
-bit-small true = omega arith
-bit-small false = omega arith
-
 -- one bit more doubles the bound
 more-small : (count value : ℕ) (bit : Bool) → value < 2 ^ count → more value bit < 2 ^ (count + 1)
 more-small count value bit h =
     let double : 2 ^ (count + 1) ≡ 2 ^ count * 2 = rw add-one (pow-suc 2 count) in
-    omega (arith, bit-small bit, mod-le (2 * value + bitNumber bit) 512)
+    omega (arith, bitNumber-small bit, mod-le (2 * value + bitNumber bit) 512)
 
 turned-small : (value : ℕ) → turned value < 16
 turned-small value = omega arith

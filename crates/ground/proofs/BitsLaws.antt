@@ -12,7 +12,11 @@ use lib.Pow.{pow-mono}
 use mir.Val.{boolByte}
 use Rattle.ground.specs.Bits.{bitNumber, bitAt}
 
--- a bit as a byte
+-- a bit as a number, and as a byte
+pub bitNumber-small : (bit : Bool) → bitNumber bit ≤ 1
+bitNumber-small true = omega arith
+bitNumber-small false = omega arith
+
 pub boolByte-small : (bit : Bool) → boolByte bit ≤ 1
 boolByte-small true = omega arith
 boolByte-small false = omega arith
@@ -28,11 +32,12 @@ bitAt-past i n small past =
     let none : n / 2 ^ i ≡ 0 = div-eq-of-lt (lt-of-lt-of-le small (pow-mono past)) in
     simp none
 
+-- a number below 2 is the number of a bit
+pub bitNumber-test : (x : ℕ) → x < 2 → bitNumber (eqb x 1) ≡ x
+bitNumber-test zero h = refl
+bitNumber-test (suc zero) h = refl
+bitNumber-test (suc (suc x)) h = let no : ⊥ = omega arith in absurd no
+
 -- a bit as a number is what its place leaves
 pub bitNumber-bitAt : (i n : ℕ) → bitNumber (bitAt i n) ≡ n / 2 ^ i % 2
-bitNumber-bitAt i n = by (n / 2 ^ i % 2) (mod-lt (n / 2 ^ i) (omega arith))
-  where
-    by : (x : ℕ) → x < 2 → bitNumber (eqb x 1) ≡ x
-    by zero h = refl
-    by (suc zero) h = refl
-    by (suc (suc x)) h = let no : ⊥ = omega arith in absurd no
+bitNumber-bitAt i n = bitNumber-test (n / 2 ^ i % 2) (mod-lt (n / 2 ^ i) (omega arith))

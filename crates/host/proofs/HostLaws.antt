@@ -1,11 +1,11 @@
 -- What each call returns and leaves, by what it was answered. Assumes nothing.
 use mathlib.Core.Path.{_≡_, _∙_, refl, sym, ap}
 use mathlib.Core.Bool.{Bool, true, false, cond, not}
-use mathlib.Core.List.{List, [], _∷_}
-use Prim.Native.Nat.{ℕ, suc, _≤_, _<_}
+use mathlib.Core.List.{List}
+use Prim.Native.Nat.{ℕ, _≤_, _<_}
 use native.Mathlib.Omega.{arith}
 use lib.Dec.{eqb, ltb}
-use lib.ListN.{length, getD, replicate}
+use lib.ListN.{length, replicate}
 use borrow.Author.Tests.{lt-ltb, le-ltb, ltb-false, eqb-true}
 use Rattle.ground.proofs.ChoiceLaws.{by-cases}
 use Rattle.ground.proofs.PlacesLaws.{none-above}
@@ -15,13 +15,12 @@ use Rattle.ground.specs.declared.Outcome.{Outcome}
 use Rattle.ground.specs.declared.Outcome.the-variants.{Written, Refused}
 use Rattle.ground.specs.Outcomes.{left, ComesTo}
 use Rattle.ground.specs.Places.{lowest, somewhere}
-use Rattle.ground.specs.Refusals.{refusalPlace}
 use Rattle.chip.specs.declared.PoweredOn.{PoweredOn}
 use Rattle.chip.specs.declared.Start.{Start}
 use Rattle.chip.specs.declared.Start.the-variants as start
 use Rattle.chip.specs.PowerOn.{startPlace, freshChip, emptyChip, notStarted, poweredOn}
-use Rattle.port.specs.Valid.{Nibbles}
 use Rattle.chip.specs.Valid.{Valid}
+use Rattle.port.proofs.ValidLaws.{nibbles-from}
 use Rattle.chip.proofs.ValidLaws.{freshChip-valid}
 use Rattle.state.specs.Record.{recordValid}
 use Rattle.state.specs.Answers.{writtenAs, writtenOver}
@@ -44,12 +43,6 @@ module _ {due : Outcome} {stream before after : List ℕ} {r : Outcome} (comes :
 record Started (powered : PoweredOn) : Type 0 where
   place : startPlace (powered .answer) ≤ 128
   valid : Valid (powered .chip)
-
-nibbles-from : (memory : List ℕ) → ((k : ℕ) → k < length memory → getD memory k 0 ≤ 15) → Nibbles memory
-nibbles-from [] low = tt
-nibbles-from (nibble ∷ memory) low =
-    let first = low 0 (omega arith) in
-    (omega (arith, first), nibbles-from memory (λ k less. low (suc k) (omega arith)))
 
 fresh-valid : (memory : List ℕ) → length memory ≡ 32 → length memory ≤ lowest (ltb 15) memory → Valid (freshChip memory)
 fresh-valid memory size low = freshChip-valid memory size (nibbles-from memory (none-above 15 memory low))

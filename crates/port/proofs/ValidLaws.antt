@@ -1,7 +1,7 @@
 -- Every sample keeps a valid port valid. Assumes nothing.
 use mathlib.Core.Path.{_≡_, _∙_, refl}
 use mathlib.Core.List.{List, [], _∷_}
-use Prim.Native.Nat.{ℕ, zero, suc, _<_}
+use Prim.Native.Nat.{ℕ, zero, suc, _≤_, _<_, suc-le-suc, zero-le}
 use lib.ListN.{length, getD, set, length-set}
 use Rattle.lines.specs.declared.Levels.{Levels}
 use Rattle.lines.specs.Samples.{rose}
@@ -15,6 +15,10 @@ use Rattle.port.specs.Port.{memoryAfter, framedBy, moved}
 use Rattle.port.specs.Valid.{Nibbles, PortValid}
 
 -- ---- the memory
+
+pub nibbles-from : (memory : List ℕ) → ((k : ℕ) → k < length memory → getD memory k 0 ≤ 15) → Nibbles memory
+nibbles-from [] low = tt
+nibbles-from (nibble ∷ memory) low = (suc-le-suc (low 0 (suc-le-suc zero-le)), nibbles-from memory (λ k h. low (suc k) (suc-le-suc h)))
 
 set-nibbles : (memory : List ℕ) (at nibble : ℕ) → Nibbles memory → nibble < 16 → Nibbles (set memory at nibble)
 set-nibbles [] at nibble v h = tt

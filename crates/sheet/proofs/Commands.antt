@@ -29,7 +29,7 @@ use Rattle.port.specs.Port.{framedBy, moved}
 use Rattle.chip.proofs.ValidLaws.{stepped-valid}
 use Rattle.state.specs.FrameCodes.{phaseRead, phaseNumber}
 use Rattle.state.specs.Record.{mostBits, goesWithCs, valueIn, settingsOf, recordValid, recordOf, chipOf}
-use Rattle.state.proofs.ChipLaws.{valid-chip}
+use Rattle.state.proofs.ChipLaws.{valid-chip, cs-low}
 use Rattle.state.proofs.FramesLaws.{FrameHas, frame-has, FrameSame, frame-same}
 use Rattle.state.proofs.TripLaws.{valid-has, within}
 use Rattle.simulator.specs.Simulator.{answerCode, stepReturns, stepBytes}
@@ -39,10 +39,6 @@ use Rattle.sheet.specs.Commands.{defined, effectOf, NinthBit, CommandsSh
 use Rattle.sheet.proofs.BytesLaws.{settled, bytes-spelt}
 use Rattle.sheet.proofs.CommandsLaws.{effect-same, defined-same, code-taken, code-meaning, code-told}
 use Rattle.sheet.proofs.NinthBitLaws.{first-bit, edge-takes, takes-only, frame-keeps}
-
-cs-low : (high : Bool) → cond high false true ≡ true → high ≡ false
-cs-low true e = sym e
-cs-low false e = refl
 
 -- ---- a sample on a valid record
 
@@ -141,9 +137,9 @@ module _ (b : List ℕ) (sample : ℕ) (valid : recordValid b ≡ true) where
         rd = each .2;
       }
 
-  kept : (NinthBit b sample → ⊥) → drop 40 (stepBytes b sample) ≡ drop 40 b
+  settings-stay : (NinthBit b sample → ⊥) → drop 40 (stepBytes b sample) ≡ drop 40 b
   unfolding stepBytes chipOf framedBy
-  kept never = by (ltb 15 sample) refl
+  settings-stay never = by (ltb 15 sample) refl
     where
       by : (above : Bool) → ltb 15 sample ≡ above → drop 40 (stepBytes b sample) ≡ drop 40 b
       by true e = simp (valid, e)
@@ -166,7 +162,7 @@ ninths = refl
 pub commands-sheet : CommandsSheet
 commands-sheet =
     record {
-      steps = λ b sample valid. record { answer = told b sample valid; effect = obeyed b sample valid; none = kept b sample valid };
+      steps = λ b sample valid. record { answer = told b sample valid; effect = obeyed b sample valid; none = settings-stay b sample valid };
       undefined = refl;
       refused = λ code low. agree commandFault (λ (c : ℕ). not (defined c)) 256 faults code low;
       ninth = λ code low. agree (λ (c : ℕ). codeMeaning (2 * c + 1)) (λ (c : ℕ). codeMeaning (2 * c)) 256 ninths code low;

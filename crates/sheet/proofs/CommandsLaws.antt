@@ -1,14 +1,14 @@
 -- Each code's effect on the bytes is its meaning's effect on the settings: one computed test of them all but the few whose
 -- effect goes by a source. Assumes nothing.
 use mathlib.Core.Path.{_≡_, refl, sym}
-use mathlib.Core.Bool.{Bool, true, false, cond, not}
+use mathlib.Core.Bool.{Bool, cond, not}
 use mathlib.Core.List.{List}
 use Prim.Native.Nat.{ℕ, zero, suc, _+_, _*_, _/_, _%_, _≤_, _<_}
 use native.Mathlib.Omega.{arith}
 use native.Mathlib.Nat.{add-zero}
 use lib.ListN.{drop}
 use borrow.Author.Tests.{le-ltb}
-use Rattle.ground.specs.Bits.{bitNumber}
+use Rattle.ground.proofs.BitsLaws.{bitNumber-small}
 use Rattle.ground.specs.Values.{agree}
 use Rattle.commands.specs.declared.Decoded.{Decoded}
 use Rattle.commands.specs.declared.Decoded.the-variants.{Undefined, Means}
@@ -75,14 +75,10 @@ defined-same code h = agree defined (λ (n : ℕ). not (undefined (byteMeaning n
 
 -- ---- what it is answered, and what it then does to the settings
 
-bit-small : (bit : Bool) → bitNumber bit ≤ 1
-bit-small true = omega arith
-bit-small false = omega arith
-
 module _ (code : ℕ) (small : code < 256) where
   -- the ninth bit is ignored
   pub code-taken : (bit : Bool) → more code bit / 2 % 256 ≡ code
-  code-taken bit = omega (arith, bit-small bit)
+  code-taken bit = omega (arith, bitNumber-small bit)
 
   pub code-meaning : codeMeaning (2 * code) ≡ byteMeaning code
   unfolding codeMeaning

@@ -8,6 +8,7 @@ use native.Mathlib.Omega.{arith}
 use lib.Dec.{ltb}
 use lib.ListN.{length}
 use borrow.Author.Tests.{ltb-false}
+use Rattle.ground.proofs.BitsLaws.{bitNumber-small}
 use Rattle.chip.specs.declared.Chip.{Chip}
 use Rattle.chip.specs.Chip.{stepped, advanced}
 use Rattle.chip.specs.Valid.{Valid}
@@ -21,7 +22,6 @@ use Rattle.sheet.specs.Left.{Keeps, StepRefused, PinsRefused, LeftSheet}
 use Rattle.sheet.proofs.AnswerLaws.{answer-low}
 use Rattle.sheet.proofs.BufferLaws.{write-leaves, read-leaves, commands-leave, decode-leaves, power-on-leaves}
 use Rattle.sheet.proofs.Pins.{pins-sheet}
-use Rattle.sheet.proofs.PinsLaws.{bit-small}
 
 -- the record of a valid chip is as long as every valid record
 same-size : (b : List ℕ) (c : Chip) → recordValid b ≡ true → Valid c → length (recordOf c) ≡ length b
@@ -74,7 +74,7 @@ pins-keep b out = by (recordValid b) (ltb (length out) 32) refl refl
         let told = pins-sheet .calls b out e (ltb-false (length out) 32 f) in
         let line = within b (valid-has b e) 39 (omega arith) in
         let few : pinsReturns b out ≤ 23 =
-        omega (arith, told .returned, line, bit-small (irqIsLow b), bit-small (sounds b && toneIsHigh b), bit-small (sounds b && not (toneIsHigh b))) in
+        omega (arith, told .returned, line, bitNumber-small (irqIsLow b), bitNumber-small (sounds b && toneIsHigh b), bitNumber-small (sounds b && not (toneIsHigh b))) in
         record {
           size = told .size;
           kept = ⊎-elim (λ n. let no : ⊥ = omega (arith, few, n) in absurd no) (λ n. let no : ⊥ = omega (arith, few, n) in absurd no);

@@ -7,6 +7,7 @@ use native.Mathlib.Omega.{arith}
 use lib.Dec.{eqb, leb}
 use lib.ListN.{length, getD}
 use Rattle.ground.specs.Bits.{bitNumber, bitAt}
+use Rattle.ground.proofs.BitsLaws.{bitNumber-small}
 use Rattle.clock.specs.declared.Timer.{Timer}
 use Rattle.pins.specs.Pins.{asserted, wave}
 use Rattle.state.specs.Selections.{pitchRead, isPitch, pitchIn, irqSourceRead, irqSourceIn}
@@ -38,25 +39,21 @@ pitch-code (suc (suc (suc (suc (suc code))))) q h e = let no : ⊥ = omega arith
 
 -- ---- a nibble by its bits
 
-pub bit-small : (bit : Bool) → bitNumber bit ≤ 1
-bit-small true = omega arith
-bit-small false = omega arith
-
 module _ (d : ℕ → Bool) where
   abbrev pub nibble : ℕ
   nibble = bitNumber (d 0) + 2 * bitNumber (d 1) + 4 * bitNumber (d 2) + 8 * bitNumber (d 3)
 
   pub nibble-small : nibble ≤ 15
-  nibble-small = omega (arith, bit-small (d 0), bit-small (d 1), bit-small (d 2), bit-small (d 3))
+  nibble-small = omega (arith, bitNumber-small (d 0), bitNumber-small (d 1), bitNumber-small (d 2), bitNumber-small (d 3))
 
   is-bit : (c : ℕ) → nibble / 2 ^ c % 2 ≡ bitNumber (d c) → bitAt c nibble ≡ d c
   is-bit c e = ap (λ (k : ℕ). eqb k 1) e ∙ bit-back (d c)
 
   pub nibble-bit : (c : ℕ) → c ≤ 3 → bitAt c nibble ≡ d c
-  nibble-bit zero h = is-bit 0 (omega (arith, bit-small (d 0)))
-  nibble-bit (suc zero) h = is-bit 1 (omega (arith, bit-small (d 0), bit-small (d 1)))
-  nibble-bit (suc (suc zero)) h = is-bit 2 (omega (arith, bit-small (d 0), bit-small (d 1), bit-small (d 2)))
-  nibble-bit (suc (suc (suc zero))) h = is-bit 3 (omega (arith, bit-small (d 0), bit-small (d 1), bit-small (d 2), bit-small (d 3)))
+  nibble-bit zero h = is-bit 0 (omega (arith, bitNumber-small (d 0)))
+  nibble-bit (suc zero) h = is-bit 1 (omega (arith, bitNumber-small (d 0), bitNumber-small (d 1)))
+  nibble-bit (suc (suc zero)) h = is-bit 2 (omega (arith, bitNumber-small (d 0), bitNumber-small (d 1), bitNumber-small (d 2)))
+  nibble-bit (suc (suc (suc zero))) h = is-bit 3 (omega (arith, bitNumber-small (d 0), bitNumber-small (d 1), bitNumber-small (d 2), bitNumber-small (d 3)))
   nibble-bit (suc (suc (suc (suc c)))) h = let no : ⊥ = omega arith in absurd no
 
 -- ---- a list by its elements

@@ -11,7 +11,7 @@ use lib.ListN.{length, drop, length-append, drop-of-length-le}
 use lib.Pow.{pow-mono}
 use lib.Seq.{length-take-le}
 use borrow.Author.Tests.{le-leb, lt-ltb, eq-eqb}
-use Rattle.ground.specs.Bits.{bitNumber}
+use Rattle.ground.proofs.BitsLaws.{bitNumber-small}
 use Rattle.clock.specs.declared.Source.{Source}
 use Rattle.clock.specs.declared.Source.the-variants.{Xtal, Rc, Ext}
 use Rattle.commands.specs.declared.Bias.{Bias}
@@ -51,7 +51,7 @@ cs-high : (x : Bool) → cond x true false ≡ true → x ≡ true
 cs-high true e = refl
 cs-high false e = e
 
-cs-low : (x : Bool) → cond x false true ≡ true → x ≡ false
+pub cs-low : (x : Bool) → cond x false true ≡ true → x ≡ false
 cs-low true e = sym e
 cs-low false e = refl
 
@@ -131,10 +131,6 @@ chip-again c h =
 
 -- ---- a valid chip is written as a valid record
 
-bit-small : (bit : Bool) → bitNumber bit ≤ 1
-bit-small true = omega arith
-bit-small false = omega arith
-
 phase-small : (phase : Phase) → phaseNumber phase ≤ 7
 phase-small Idle = omega arith
 phase-small (Ident count value) = omega arith
@@ -204,7 +200,7 @@ tail-fits c v =
     let small = phase-fits (l .cs) (c .port .line) phase (v .port .frame) in
     let low : valueOf phase % 256 ≤ 255 = omega (arith, mod-lt (valueOf phase) {m = 256} (omega arith)) in
     let high : valueOf phase / 256 ≤ 255 = omega (arith, div-eq-of-lt (small .value)) in
-    let lines : levelsNumber l ≤ 15 = omega (arith, bit-small (l .cs), bit-small (l .wr), bit-small (l .rd), bit-small (l .bit)) in
+    let lines : levelsNumber l ≤ 15 = omega (arith, bitNumber-small (l .cs), bitNumber-small (l .wr), bitNumber-small (l .rd), bitNumber-small (l .bit)) in
     simp (
       le-leb _ _ lines,
       le-leb _ _ (phase-small phase),
@@ -214,24 +210,24 @@ tail-fits c v =
       le-leb _ _ (small .at),
       le-leb _ _ (small .position),
       le-leb _ _ (lineNumber-small (c .port .line)),
-      le-leb _ _ (bit-small (s .system .on)),
+      le-leb _ _ (bitNumber-small (s .system .on)),
       le-leb _ _ (source-small (s .system .source)),
-      le-leb _ _ (bit-small (s .lcd .on)),
+      le-leb _ _ (bitNumber-small (s .lcd .on)),
       le-leb _ _ (bias-small (s .lcd .bias)),
       le-leb _ _ (commons-small (s .lcd .commons)),
-      le-leb _ _ (bit-small (s .tone .on)),
+      le-leb _ _ (bitNumber-small (s .tone .on)),
       le-leb _ _ (pitch-small (s .tone .pitch)),
-      le-leb _ _ (bit-small (s .irq .on)),
+      le-leb _ _ (bitNumber-small (s .irq .on)),
       le-leb _ _ (v .settings .0),
-      le-leb _ _ (bit-small (s .base .on)),
+      le-leb _ _ (bitNumber-small (s .base .on)),
       le-leb _ _ (irqSource-small (s .irq .source)),
-      le-leb _ _ (bit-small (timer .watchdog .flag)),
+      le-leb _ _ (bitNumber-small (timer .watchdog .flag)),
       le-leb (s .counters .prescaler .count) 7 (omega (arith, v .settings .1 .prescaler)),
       le-leb (s .counters .toner .count) 15 (omega (arith, v .settings .1 .toner)),
       le-leb (timer .divider .count) 127 (omega (arith, v .settings .1 .timer .divider)),
       le-leb (timer .base .count) 255 (omega (arith, v .settings .1 .timer .base)),
       le-leb (timer .watchdog .count) 3 (omega (arith, v .settings .1 .timer .watchdog)),
-      le-leb _ _ (bit-small (s .test)),
+      le-leb _ _ (bitNumber-small (s .test)),
     )
 
 frame-right : (lines : ℕ) (cs : Bool) (line : Line) (phase : Phase) → eqb (lines % 2) 1 ≡ cs → FrameValid cs line phase

@@ -9,7 +9,7 @@ use lib.Dec.{leb}
 use lib.ListN.{length, take, drop, getD, replicate}
 use borrow.Author.Tests.{leb-true, le-leb}
 use Rattle.port.specs.Valid.{Nibbles}
-use Rattle.state.specs.Record.{upTo}
+use Rattle.state.specs.Record.{upTo, maxima, byte}
 
 -- ---- both of two tests
 
@@ -50,6 +50,10 @@ upTo-at (byte ∷ bytes) [] i e h k = absurd (not-suc-le-zero k)
 upTo-at (byte ∷ bytes) (maximum ∷ most) zero e h k = leb-true byte maximum (and-left (leb byte maximum) (upTo bytes most) e)
 upTo-at (byte ∷ bytes) (maximum ∷ most) (suc i) e h k =
     upTo-at bytes most i (and-right (leb byte maximum) (upTo bytes most) e) (le-of-suc-le-suc h) (le-of-suc-le-suc k)
+
+-- each byte of a record in its range
+pub byte-within : (b : List ℕ) → length b ≡ 64 → upTo b maxima ≡ true → (i : ℕ) → i < 64 → byte b i ≤ getD maxima i 0
+byte-within b long fits i h = upTo-at b maxima i fits (omega (arith, long)) h
 
 pub upTo-drop : (n : ℕ) (bytes most : List ℕ) → upTo bytes most ≡ true → upTo (drop n bytes) (drop n most) ≡ true
 unfolding upTo

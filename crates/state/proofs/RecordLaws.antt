@@ -31,7 +31,7 @@ use Rattle.state.specs.declared.Verdict.the-variants as verdict
 use Rattle.state.specs.FrameCodes.{lineRead}
 use Rattle.state.specs.Answers.{verdictNumber, settingsNumber, settingsRead, settingsIn, malformed, readOf, writtenAs}
 use Rattle.state.specs.Record.{frameBytes, counterBytes, settingsBytes, upTo, maxima, mostBits, byte, framesRight, bytesFit, recordValid, settingsRight, settingsOf, phaseAt, chipOf, tailOf, recordOf}
-use Rattle.state.proofs.RangesLaws.{and-left, upTo-at}
+use Rattle.state.proofs.RangesLaws.{and-left, byte-within}
 use Rattle.state.proofs.CodesLaws.{phase-there, line-there}
 
 -- ---- each byte at most its maximum: one that is leaves the rest to decide, one that is not decides, and none is left
@@ -226,15 +226,15 @@ module _ (b : List ℕ) (long : length b ≡ 64) where
     unfolding settingsIn settingsRead recordValid
     settings-whole = rw (eq-eqb _ _ long, fit)
 
-    within : (i : ℕ) → i < 64 → byte b i ≤ getD maxima i 0
-    within i h = upTo-at b maxima i (and-left (upTo b maxima) (framesRight b) fit) (omega (arith, long)) h
+    fits : upTo b maxima ≡ true
+    fits = and-left (upTo b maxima) (framesRight b) fit
 
     -- bytes in range have a phase and a line
     pub read-phase : phaseAt b ≡ NoPhase → malformed ≡ readOf b
-    read-phase e = absurd (phase-there (byte b 33) _ _ _ _ (within 33 (omega arith)) e)
+    read-phase e = absurd (phase-there (byte b 33) _ _ _ _ (byte-within b long fits 33 (omega arith)) e)
 
     pub read-line : lineRead (byte b 39) ≡ NoLine → malformed ≡ readOf b
-    read-line e = absurd (line-there (byte b 39) (within 39 (omega arith)) e)
+    read-line e = absurd (line-there (byte b 39) (byte-within b long fits 39 (omega arith)) e)
 
     pub read-settings : settingsRead b ≡ NoSettings → malformed ≡ readOf b
     unfolding readOf recordValid settingsRead

@@ -12,7 +12,7 @@ use lib.Seq.{drop-cons}
 use borrow.Author.Tests.{eqb-true}
 use Rattle.state.specs.Selections.{sourceRead, isSource, biasRead, isBias, commonsRead, isCommons, pitchRead, isPitch, irqSourceRead, isIrqSource}
 use Rattle.state.specs.Record.{upTo, maxima, byte, valueIn, framesRight, bytesFit, settingsRight, recordValid, recordOf, tailOf, chipOf}
-use Rattle.state.proofs.RangesLaws.{and-left, and-right, each-of-3, each-of-5, upTo-at, upTo-drop, upTo-zeros}
+use Rattle.state.proofs.RangesLaws.{and-left, and-right, each-of-3, each-of-5, byte-within, upTo-drop, upTo-zeros}
 use Rattle.state.proofs.CodesLaws.{bit-again, lines-again, line-again, source-again, irqSource-again, bias-again, commons-again, pitch-again}
 use Rattle.state.proofs.FramesLaws.{FrameSame, frame-has, frame-same}
 
@@ -50,7 +50,7 @@ valid-has b v =
 module _ (b : List ℕ) (has : RecordHas b) where
   -- each byte in its range
   pub within : (i : ℕ) → i < 64 → byte b i ≤ getD maxima i 0
-  within i h = upTo-at b maxima i (has .fits) (omega (arith, has .long)) h
+  within = byte-within b (has .long) (has .fits)
 
   -- the bytes of a frame are written the same
   same : FrameSame (byte b 33) (byte b 34) (valueIn b) (byte b 37) (byte b 38)

@@ -2,23 +2,17 @@
 -- Assumes nothing.
 use mathlib.Core.Path.{_≡_, refl}
 use mathlib.Core.List.{List, [], _∷_, _++_}
-use Prim.Native.Nat.{ℕ, zero, suc, _+_, _*_, _/_, _%_, _<_}
+use Prim.Native.Nat.{ℕ, _+_, _*_, _/_, _%_, _<_}
 use native.Mathlib.Omega.{arith}
 use Rattle.ground.specs.Bits.{bitNumber}
+use Rattle.ground.proofs.BitsLaws.{bitNumber-test}
 use Rattle.ground.specs.Values.{agree}
 use Rattle.ground.specs.Written.{Wrote}
 use Rattle.streams.specs.Streams.{sendBit, sendBits, writeId, readId, addressBits, commandBits}
 use Rattle.streams.specs.Weights.{weighed, nineBits}
-use lib.Dec.{eqb}
-
--- a remainder by 2 is the number of a bit
-bit-number : (rest : ℕ) → rest < 2 → bitNumber (eqb rest 1) ≡ rest
-bit-number zero h = refl
-bit-number (suc zero) h = refl
-bit-number (suc (suc rest)) h = let no : ⊥ = omega arith in absurd no
 
 pub weighed-number : (weight number : ℕ) → bitNumber (weighed weight number) ≡ number / weight % 2
-weighed-number weight number = bit-number (number / weight % 2) (omega arith)
+weighed-number weight number = bitNumber-test (number / weight % 2) (omega arith)
 
 -- the samples of a bit, from the bit's number
 pub wrote-bit : (weight number : ℕ) {before after : List ℕ} {at next : ℕ}

@@ -7,7 +7,7 @@ ghost use lib.ListN.{length};
 ghost use Rattle.ground.specs.Outcomes.{ComesTo};
 ghost use Rattle.ground.specs.Written.{Wrote};
 ghost use Rattle.chip.specs.PowerOn.{emptyChip};
-ghost use Rattle.transcript.specs.Listing.{classOf, field, line, answerLine, badLine, endLine, long};
+ghost use Rattle.transcript.specs.Listing.{classOf, field, line, answerLine, badLine, endLine};
 ghost use Rattle.transcript.specs.Listing.{listFrom, listing, roomFor, listAnswer};
 use answers::Answer;
 use chip::Chip;
@@ -143,14 +143,6 @@ fn put_end(out: &mut [u8], at: usize, samples: u32, ticks: u32) -> usize
     put_field(out, b, ticks, b'\n')
 }
 
-// The only line of an input that is too long.
-fn put_long(out: &mut [u8]) -> usize
-    requires { ⌜ 16 ≤ length (now out) ⌝ }
-    ensures { λ r. ⌜ Wrote (now (out .entry)) 0 long (now (out .exit)) r ⌝ }
-{
-    put_bytes(out, 0, b"long\n")
-}
-
 // The lines of an input that is not too long.
 fn put_lines(input: &[u8], out: &mut [u8]) -> usize
     requires { ⌜ (length (now input) ≤ 65536) × (24 * length (now input) + 16 ≤ length (now out)) ⌝ }
@@ -212,7 +204,7 @@ pub fn list(input: &[u8], out: &mut [u8]) -> Outcome
         return Outcome::Refused(Refusal::OutputShort);
     }
     if 65536 < input.len() {
-        return Outcome::Written(put_long(out));
+        return Outcome::Written(put_bytes(out, 0, b"long\n"));
     }
     Outcome::Written(put_lines(input, out))
 }

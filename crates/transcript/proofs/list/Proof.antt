@@ -45,19 +45,22 @@ returns c =
     let entry : _ = c .before .before .before .before in
     too-short (entry .args .input .now) (entry .args .out .now) (omega (arith, c .before .room .ensures))
 
-put-long-requires : tie.Need-put-long-requires
-put-long-requires c κs = search needs
+slice-aggregate-put-bytes : tie.Need-slice-aggregate-put-bytes
+slice-aggregate-put-bytes c = search needs
+
+put-bytes-requires : tie.Need-put-bytes-requires
+put-bytes-requires c κs = search needs
 
 same-length : tie.Need-same-length
 same-length c = search needs
 
 returns-2 : tie.Need-returns-2
 returns-2 c =
-    let at-if2 : _ = c .before .before .before .before in
+    let at-if2 : _ = c .before .before .before .before .before in
     let at-room : _ = at-if2 .before .before in
     let entry : _ = at-room .before .before .before in
     written (entry .args .input .now) long (omega (arith, at-room .room .ensures))
-    (only-long _ (at-if2 .if2 .taken)) (c .before .before .put-long .ensures)
+    (only-long _ (at-if2 .if2 .taken)) (c .before .before .put-bytes .ensures)
 
 put-lines-requires : tie.Need-put-lines-requires
 put-lines-requires c κs = search needs
@@ -80,7 +83,8 @@ list-spec =
     (tie.spec
     room-requires
     returns
-    put-long-requires
+    slice-aggregate-put-bytes
+    put-bytes-requires
     same-length
     returns-2
     put-lines-requires
