@@ -20,7 +20,7 @@ use Rattle.settings.specs.declared.IrqSource.the-variants.{Neither, TimeBase, F
 use Rattle.settings.specs.declared.Settings.{Settings}
 use Rattle.rules.specs.Effects.{effect}
 use Rattle.settings.specs.Settings.{sourceTo, irqSourceTo}
-use Rattle.frames.specs.Frames.{more, commandAnswer}
+use Rattle.frames.specs.Frames.{more}
 use Rattle.chip.specs.Chip.{decodedAnswer}
 use Rattle.answers.specs.Answers.{act}
 use Rattle.chip.specs.Chip.{obeyedAs, settingsAfter}

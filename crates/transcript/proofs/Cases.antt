@@ -4,7 +4,7 @@ use mathlib.Core.List.{List, [], _∷_}
 use Prim.Native.Nat.{ℕ}
 use Rattle.frames.specs.Frames.{identified, identTaken, writeToTaken, nibbleTaken, taken, closed, frame}
 use Rattle.port.specs.Port.{memoryAfter, framedBy, moved}
-use Rattle.chip.specs.Chip.{settingsAfter, stepped}
+use Rattle.chip.specs.Chip.{settingsAfter, stepped, steppedTo}
 use Rattle.chip.specs.PowerOn.{emptyChip}
 use Rattle.transcript.specs.Listing.{classOf, digits, decimal, field, line, answerLine, badLine, endLine}
 use Rattle.transcript.specs.Listing.{listFrom, listing}
@@ -38,5 +38,5 @@ pub listings-computed :
     × (listing [] ≡ 101 ∷ 110 ∷ 100 ∷ 32 ∷ 48 ∷ 32 ∷ 48 ∷ 10 ∷ [])
     × (listing (116 ∷ []) ≡ 101 ∷ 110 ∷ 100 ∷ 32 ∷ 48 ∷ 32 ∷ 49 ∷ 10 ∷ [])
     × (listing (116 ∷ 32 ∷ 116 ∷ 9 ∷ 116 ∷ []) ≡ 98 ∷ 97 ∷ 100 ∷ 32 ∷ 51 ∷ 10 ∷ [])
-unfolding emptyChip classOf digits decimal field line answerLine badLine endLine listFrom listing stepped moved framedBy memoryAfter settingsAfter frame taken closed identified identTaken writeToTaken nibbleTaken
+unfolding emptyChip classOf digits decimal field line answerLine badLine endLine listFrom listing stepped steppedTo moved framedBy memoryAfter settingsAfter frame taken closed identified identTaken writeToTaken nibbleTaken
 listings-computed = (refl, refl, refl, refl, refl)

@@ -1,6 +1,6 @@
 -- Laws of the lines: how long each is, so that every listing fits its room; and one write after another makes a line.
 -- Assumes nothing.
-use mathlib.Core.Path.{_≡_, refl, sym, _∙_}
+use mathlib.Core.Path.{_≡_, _∙_, refl, sym, ap}
 use mathlib.Core.Bool.{Bool, true, false, cond}
 use mathlib.Core.List.{List, [], _∷_, _++_, append-nil}
 use Prim.Native.Nat.{ℕ, _+_, _*_, _≤_}
@@ -17,7 +17,8 @@ use Rattle.ground.specs.Written.{Wrote}
 use Rattle.ground.proofs.ChoiceLaws.{either, by-cases}
 use Rattle.ground.proofs.WrittenLaws.{wrote-none, wrote-then}
 use Rattle.answers.specs.declared.Answer.{Answer}
-use Rattle.answers.specs.Answers.{answerNumber, firstDetail, secondDetail}
+use Rattle.answers.specs.declared.Numbers.{Numbers}
+use Rattle.answers.specs.Answers.{answerNumber, firstDetail, secondDetail, numbers}
 use Rattle.chip.specs.declared.Chip.{Chip}
 use Rattle.chip.specs.Chip.{stepped, ticked}
 use Rattle.chip.specs.PowerOn.{emptyChip}
@@ -131,20 +132,27 @@ end-wrote samples ticks p q r fits =
     (wrote-then end (field samples space) p q (omega (arith, length-field samples space))) r
     (omega (arith, length-field ticks newline))
 
-module _ (buffer : List ℕ) (at number kind : ℕ) (answer : Answer) (same : kind ≡ answerNumber answer) where
+module _ (buffer : List ℕ) (at number : ℕ) (told : Numbers) (answer : Answer) (same : told ≡ numbers answer) where
   -- an answer that has no line
-  pub answer-unlisted : kind ≡ 0 → Wrote buffer at (answerLine number answer) buffer at
+  pub answer-unlisted : told .number ≡ 0 → Wrote buffer at (answerLine number answer) buffer at
   unfolding answerLine
-  answer-unlisted e = rw (eq-eqb _ _ (sym same ∙ e)) (wrote-none buffer at)
+  answer-unlisted e = rw (eq-eqb _ _ (sym (ap (λ (n : Numbers). n .number) same) ∙ e)) (wrote-none buffer at)
 
-  pub taken-unlisted : (kind ≡ 0 → ⊥) → kind ≡ 4 → Wrote buffer at (answerLine number answer) buffer at
+  pub taken-unlisted : (told .number ≡ 0 → ⊥) → told .number ≡ 4 → Wrote buffer at (answerLine number answer) buffer at
   unfolding answerLine
-  taken-unlisted some e = rw (sym same ∙ e) (wrote-none buffer at)
+  taken-unlisted some e = rw (sym (ap (λ (n : Numbers). n .number) same) ∙ e) (wrote-none buffer at)
 
   -- and one that has one
-  pub answer-listed : (first second : ℕ) {after : List ℕ} {k : ℕ} → (kind ≡ 0 → ⊥) → (kind ≡ 4 → ⊥)
-      → first ≡ firstDetail answer → second ≡ secondDetail answer → Wrote buffer at (line number kind first second) after k
+  pub answer-listed : {after : List ℕ} {k : ℕ} → (told .number ≡ 0 → ⊥) → (told .number ≡ 4 → ⊥)
+      → Wrote buffer at (line number (told .number) (told .first) (told .second)) after k
       → Wrote buffer at (answerLine number answer) after k
   unfolding answerLine
-  answer-listed first second none taken e f w =
-      rw (← same, ne-eqb kind 0 none, ne-eqb kind 4 taken, ← e, ← f) w
+  answer-listed none taken w =
+      rw (
+        ← ap (λ (n : Numbers). n .number) same,
+        ne-eqb (told .number) 0 none,
+        ne-eqb (told .number) 4 taken,
+        ← ap (λ (n : Numbers). n .first) same,
+        ← ap (λ (n : Numbers). n .second) same,
+      )
+      w
