@@ -1,7 +1,7 @@
 // The port: what samples move of a chip, the memory with the lines, the frame and DATA. All goes by value. Assumes nothing.
 ghost use mathlib.Core.Path.{_≡_};
 ghost use lib.ListN.{getD, set};
-ghost use Rattle.port.specs.Port.{memoryAfter, moved};
+ghost use Rattle.port.specs.Port.{moved};
 use frames::Upshot;
 use ground::ADDRESSES;
 use lines::Levels;
@@ -46,19 +46,8 @@ fn stored(memory: [u8; ADDRESSES], at: u8, nibble: u8) -> [u8; ADDRESSES]
     next
 }
 
-// Of all that a sample can come to only a complete nibble changes the memory.
-fn memory_after(upshot: Upshot, memory: [u8; ADDRESSES]) -> [u8; ADDRESSES]
-    ensures { λ r. ⌜ r ≡ memoryAfter upshot memory ⌝ }
-{
-    match upshot {
-        Upshot::Answered(_) => memory,
-        Upshot::Nibble(at, nibble) => stored(memory, at, nibble),
-        Upshot::Code(_) => memory,
-    }
-}
-
 impl Port {
-    // The port after a sample of these levels.
+    // The port after a sample of these levels. Of all that a sample can come to only a complete nibble changes the memory.
     pub fn moved(self, levels: Levels) -> Moved
         ensures { λ r. ⌜ r ≡ moved self levels ⌝ }
     {
@@ -71,14 +60,34 @@ impl Port {
         let upshot = framed.upshot;
         let next = framed.phase;
         let driven = framed.line;
-        Moved {
-            port: Port {
-                memory: memory_after(upshot, memory),
-                levels,
-                phase: next,
-                line: driven,
+        match upshot {
+            Upshot::Answered(_) => Moved {
+                port: Port {
+                    levels,
+                    phase: next,
+                    line: driven,
+                    ..self
+                },
+                upshot,
             },
-            upshot,
+            Upshot::Nibble(at, value) => Moved {
+                port: Port {
+                    memory: stored(memory, at, value),
+                    levels,
+                    phase: next,
+                    line: driven,
+                },
+                upshot,
+            },
+            Upshot::Code(_) => Moved {
+                port: Port {
+                    levels,
+                    phase: next,
+                    line: driven,
+                    ..self
+                },
+                upshot,
+            },
         }
     }
 }
