@@ -6,14 +6,12 @@ pub mod CommandLaws
 pub mod CutLaws
 pub mod Demand2
 pub mod Demand3
-pub mod Determined
 pub mod EventsLaws
 pub mod NotesLaws
 pub mod Ports
 pub mod ReadLaws
 pub mod RecordLaws
 pub mod Records
-pub mod RehearsalLaws
 pub mod SentLaws
 pub mod SettingsLaws
 pub mod StoppedLaws

@@ -5,5 +5,4 @@ pub mod Demand2
 pub mod Demand3
 pub mod Events
 pub mod Records
-pub mod Rehearsal
 pub mod Stopped

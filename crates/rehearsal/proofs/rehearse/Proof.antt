@@ -1,11 +1,11 @@
--- `demands::rehearse` meets its contract: what the driver left in the room is its stream, and that is what is fed.
+-- `rehearsal::rehearse` meets its contract: what the driver left in the room is its stream, and that is what is fed.
 -- Assumes nothing.
 use mathlib.Core.Path.{sym}
 use borrow.Author.Needs.{needs}
 use lib.Seq.{length-take-le}
-use Rattle.demands.proofs.RehearsalLaws.{count-fits, rehearses, refuses}
-use Rattle.demands.proofs.rehearse.Statement.{statement}
-use Rattle.demands.proofs.rehearse.Tie as tie
+use Rattle.rehearsal.proofs.RehearsalLaws.{count-fits, rehearses, refuses}
+use Rattle.rehearsal.proofs.rehearse.Statement.{statement}
+use Rattle.rehearsal.proofs.rehearse.Tie as tie
 
 write-requires : tie.Need-write-requires
 write-requires c κs = search needs

@@ -1,4 +1,4 @@
--- `demands::fed` meets its contract: what is left of the samples, from the chip so far, leads where all of them lead from the
+-- `rehearsal::fed` meets its contract: what is left of the samples, from the chip so far, leads where all of them lead from the
 -- first. Assumes nothing.
 use mathlib.Core.Path.{_≡_, _∙_, sym}
 use Prim.Native.Nat.{_-_, _≤_}
@@ -7,11 +7,11 @@ use native.Mathlib.Omega.{arith}
 use borrow.Author.Needs.{needs}
 use borrow.Author.Tests.{ltb-true, ltb-false}
 use lib.ListN.{length, take, drop}
 use Rattle.demands.specs.Events.{after}
-use Rattle.demands.specs.Rehearsal.{paced}
-use Rattle.demands.proofs.RehearsalLaws.{feed-next, feed-stops, feed-ends}
-use Rattle.demands.proofs.fed.Statement.{statement}
-use Rattle.demands.proofs.fed.Tie as tie
+use Rattle.rehearsal.specs.Rehearsal.{paced}
+use Rattle.rehearsal.proofs.RehearsalLaws.{feed-next, feed-stops, feed-ends}
+use Rattle.rehearsal.proofs.fed.Statement.{statement}
+use Rattle.rehearsal.proofs.fed.Tie as tie
 
 abbrev Inv-loop : tie.InvT-loop
 Inv-loop samples stop pause now₀ i₀ now i =

@@ -18,12 +18,12 @@ use Rattle.ground.specs.declared.Outcome.the-variants.{Written, Refused}
 use Rattle.ground.specs.Outcomes.{left, ComesTo}
 use Rattle.driver.specs.Refusals.{writeAnswer}
 use Rattle.streams.specs.Streams.{writeStream}
 use Rattle.demands.specs.Events.{after, samples, ticks}
 use Rattle.demands.specs.Demand3.{Survives}
-use Rattle.demands.specs.Rehearsal.{paced, stopped, Rehearses, Demand3OfRehearsals}
+use Rattle.rehearsal.specs.Rehearsal.{paced, stopped, Rehearses, Demand3OfRehearsals}
 use Rattle.demands.proofs.AcceptedLaws.{written-fits, accepted-enough, buffer-holds}
 use Rattle.demands.proofs.Demand3.{demand3}
 use Rattle.demands.proofs.EventsLaws.{after-pause, samples-pause, ticks-pause}
 
 module _ (c : Chip) (ss : List ℕ) (stop pause i : ℕ) where
   -- one sample more, and its pause

@@ -10,9 +10,9 @@ use Rattle.ground.specs.declared.Outcome.the-variants.{Written, Refused}
 use Rattle.ground.specs.Outcomes.{left}
 use Rattle.driver.specs.Refusals.{writeAnswer}
 use Rattle.streams.specs.Streams.{writeStream}
-use Rattle.demands.specs.declared.Rehearsed.{Rehearsed}
+use Rattle.rehearsal.specs.declared.Rehearsed.{Rehearsed}
 use Rattle.demands.specs.Events.{Event, sample, tick, after}
 use Rattle.demands.specs.Demand3.{Survives}
 
 -- Samples with the same number of ticks after each.
 abbrev pub paced : ℕ → List ℕ → List Event
