@@ -10,12 +10,6 @@ use Rattle.chip.proofs.Chip.tick.Kinds as tick-kinds
 use Rattle.chip.proofs.Chip.tick.Reads as tick-reads
 use Rattle.chip.proofs.Chip.advance.Kinds as advance-kinds
 use Rattle.chip.proofs.Chip.advance.Reads as advance-reads
-use Rattle.chip.proofs.Chip.pins.Kinds as pins-kinds
-use Rattle.chip.proofs.Chip.pins.Reads as pins-reads
-use Rattle.chip.proofs.empty.Kinds as empty-kinds
-use Rattle.chip.proofs.empty.Reads as empty-reads
-use Rattle.chip.proofs.power_on.Kinds as power-on-kinds
-use Rattle.chip.proofs.power_on.Reads as power-on-reads
 
 pub step-to-determined : Determined 0 step-to-kinds.ps step-to-kinds.r step-to-reads.Post
 step-to-determined κs args x y end end' p q = p ∙ sym q
@@ -28,12 +22,3 @@ tick-determined κs args x y end end' p q = p ∙ sym q
 
 pub advance-determined : Determined 0 advance-kinds.ps advance-kinds.r advance-reads.Post
 advance-determined κs args x y end end' p q = p ∙ sym q
-
-pub pins-determined : Determined 0 pins-kinds.ps pins-kinds.r pins-reads.Post
-pins-determined κs args x y end end' p q = p ∙ sym q
-
-pub empty-determined : Determined 0 empty-kinds.ps empty-kinds.r empty-reads.Post
-empty-determined κs args x y end end' p q = p ∙ sym q
-
-pub power-on-determined : Determined 1 power-on-kinds.ps power-on-kinds.r power-on-reads.Post
-power-on-determined κs args x y end end' p q = p ∙ sym q

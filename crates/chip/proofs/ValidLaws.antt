@@ -1,13 +1,9 @@
--- Power-on gives a valid chip; every sample, every tick and every advance keeps it valid; a refused sample changes nothing.
--- Assumes nothing.
-use mathlib.Core.Path.{_≡_, refl}
-use mathlib.Core.List.{List}
+-- Every sample, every tick and every advance keeps a valid chip valid; a refused sample changes nothing. Assumes nothing.
+use mathlib.Core.Path.{_≡_}
 use Prim.Native.Nat.{ℕ, _*_, _<_}
 use lib.Dec.{ltb}
-use lib.ListN.{length}
 use borrow.Author.Tests.{lt-ltb}
 use Rattle.ground.proofs.ChoiceLaws.{either}
-use Rattle.ground.specs.Sizes.{addresses}
 use Rattle.ground.specs.declared.Refusal.the-variants.{SampleAbove}
 use Rattle.commands.specs.declared.Decoded.{Decoded}
 use Rattle.commands.specs.declared.Decoded.the-variants.{Undefined, Means}
@@ -23,12 +19,10 @@ use Rattle.answers.specs.declared.Answer.the-variants.{Refused}
 use Rattle.frames.specs.declared.Upshot.{Upshot}
 use Rattle.frames.specs.declared.Upshot.the-variants.{Answered, Nibble, Code}
 use Rattle.port.specs.Port.{moved}
-use Rattle.port.specs.Valid.{Nibbles}
 use Rattle.port.proofs.ValidLaws.{moved-valid}
 use Rattle.chip.specs.declared.Chip.{Chip}
 use Rattle.chip.specs.declared.Stepped.{Stepped}
 use Rattle.chip.specs.Chip.{obeyedAs, settingsAfter, steppedTo, stepped, ticked, advanced}
-use Rattle.chip.specs.PowerOn.{freshChip}
 use Rattle.chip.specs.Valid.{Valid}
 
 obeyedAs-valid : (decoded : Decoded) → ProperMeaning decoded → (s : Settings) → SettingsValid s → SettingsValid (obeyedAs decoded s)
@@ -67,9 +61,3 @@ ticked-valid chip v = record { port = v .port; settings = ticks.ticked-valid (ch
 
 pub advanced-valid : (n : ℕ) (chip : Chip) → Valid chip → Valid (advanced n chip)
 advanced-valid n chip v = record { port = v .port; settings = ticks.advanced-valid n (chip .settings) (v .settings) }
-
--- ---- power-on
-
-pub freshChip-valid : (memory : List ℕ) → length memory ≡ addresses → Nibbles memory → Valid (freshChip memory)
-freshChip-valid memory size nibbles =
-    record { port = record { size = size; nibbles = nibbles; frame = (refl, refl) }; settings = rules.powerOn-valid }

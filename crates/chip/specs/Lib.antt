@@ -1,4 +1,2 @@
 pub mod Chip
-pub mod Pins
-pub mod PowerOn
 pub mod Valid

@@ -12,7 +12,7 @@ use Rattle.ground.specs.Places.{lowest, somewhere}
 use Rattle.ground.specs.Sizes.{addresses}
 use Rattle.commands.specs.Commands.{commandFault}
 use Rattle.chip.specs.Chip.{stepped}
-use Rattle.chip.specs.Pins.{pinsShown}
+use Rattle.pins.specs.Pins.{pinsShown}
 use Rattle.state.specs.Record.{recordValid, chipOf}
 use Rattle.simulator.specs.Simulator.{answerCode, pinsCode, stepReturns, advanceReturns, pinsReturns}
 use Rattle.streams.specs.Streams.{writeStream, readStream, commandStream}

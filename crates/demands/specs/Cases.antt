@@ -21,7 +21,7 @@ use Rattle.pins.specs.Pins.{irqLow}
 use Rattle.answers.specs.Answers.{answerNumber}
 use Rattle.chip.specs.declared.Chip.{Chip}
 use Rattle.chip.specs.Chip.{stepped, obeyedAs}
-use Rattle.chip.specs.PowerOn.{freshChip}
+use Rattle.power.specs.PowerOn.{freshChip}
 use Rattle.driver.specs.Refusals.{writeAnswer, readAnswer}
 use Rattle.streams.specs.Streams.{writeStream, readStream, commandStream, decoded}
 

@@ -15,13 +15,13 @@ use Rattle.ground.specs.declared.Outcome.{Outcome}
 use Rattle.ground.specs.declared.Outcome.the-variants.{Written, Refused}
 use Rattle.ground.specs.Outcomes.{left, ComesTo}
 use Rattle.ground.specs.Places.{lowest, somewhere}
-use Rattle.chip.specs.declared.PoweredOn.{PoweredOn}
-use Rattle.chip.specs.declared.Start.{Start}
-use Rattle.chip.specs.declared.Start.the-variants as start
-use Rattle.chip.specs.PowerOn.{startPlace, freshChip, emptyChip, notStarted, poweredOn}
+use Rattle.power.specs.declared.PoweredOn.{PoweredOn}
+use Rattle.power.specs.declared.Start.{Start}
+use Rattle.power.specs.declared.Start.the-variants as start
+use Rattle.power.specs.PowerOn.{startPlace, freshChip, emptyChip, notStarted, poweredOn}
 use Rattle.chip.specs.Valid.{Valid}
 use Rattle.port.proofs.ValidLaws.{nibbles-from}
-use Rattle.chip.proofs.ValidLaws.{freshChip-valid}
+use Rattle.power.proofs.PowerOnLaws.{freshChip-valid}
 use Rattle.state.specs.Record.{recordValid}
 use Rattle.state.specs.Answers.{writtenAs, writtenOver}
 use Rattle.state.proofs.TripLaws.{valid-has}

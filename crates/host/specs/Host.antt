@@ -10,7 +10,7 @@ use Rattle.ground.specs.declared.Refusal.the-variants.{OutputShort}
 use Rattle.ground.specs.declared.Outcome.{Outcome}
 use Rattle.ground.specs.declared.Outcome.the-variants.{Written, Refused}
 use Rattle.ground.specs.Outcomes.{outcomeNumber, outcomePlace, succeeded, left, Rung, refusedIf, ladder}
-use Rattle.chip.specs.PowerOn.{powerOnRefusals, poweredOn}
+use Rattle.power.specs.PowerOn.{powerOnRefusals, poweredOn}
 use Rattle.streams.specs.Streams.{writeStream, readStream, commandStream, decoded}
 use Rattle.driver.specs.Refusals.{writeAnswer, readAnswer, commandAnswer, decodeAnswer}
 use Rattle.state.specs.Record.{recordOf}

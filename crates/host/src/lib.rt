@@ -6,9 +6,9 @@ ghost use Prim.Native.Nat.{_<_};
 ghost use Rattle.host.specs.Host.{refusedCode, hostCode, powerOnReturns, powerOnBytes};
 ghost use Rattle.host.specs.Host.{writeReturns, writeBytes, readReturns, readBytes};
 ghost use Rattle.host.specs.Host.{commandsReturns, commandsBytes, decodeReturns, decodeBytes};
-use chip::Start;
 use ground::Outcome;
 use ground::Refusal;
+use power::Start;
 
 // A refusal and its place as one number, where 32 bits hold it.
 fn refused_code(refusal: Refusal) -> u32
@@ -38,7 +38,7 @@ pub extern "C" fn ht1621_power_on(memory: &[u8], bytes: &mut [u8]) -> u32
     ensures { λ r. ⌜ (r ≡ powerOnReturns (now (memory .entry)) (now (bytes .entry)))
         × (now (bytes .exit) ≡ powerOnBytes (now (memory .entry)) (now (bytes .entry))) ⌝ }
 {
-    let powered = chip::power_on(memory);
+    let powered = power::power_on(memory);
     let answer = powered.answer;
     let chip = powered.chip;
     match answer {

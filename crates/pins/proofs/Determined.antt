@@ -8,8 +8,8 @@ use Rattle.pins.proofs.bz_high.Kinds as bz-high-kinds
 use Rattle.pins.proofs.bz_high.Reads as bz-high-reads
 use Rattle.pins.proofs.partner_high.Kinds as partner-high-kinds
 use Rattle.pins.proofs.partner_high.Reads as partner-high-reads
-use Rattle.pins.proofs.cell_shows.Kinds as cell-shows-kinds
-use Rattle.pins.proofs.cell_shows.Reads as cell-shows-reads
+use Rattle.pins.proofs.pins_of.Kinds as pins-of-kinds
+use Rattle.pins.proofs.pins_of.Reads as pins-of-reads
 use Rattle.pins.proofs.shown_mask.Kinds as shown-mask-kinds
 use Rattle.pins.proofs.shown_mask.Reads as shown-mask-reads
 
@@ -22,8 +22,8 @@ bz-high-determined κs args x y end end' p q = p ∙ sym q
 pub partner-high-determined : Determined 0 partner-high-kinds.ps partner-high-kinds.r partner-high-reads.Post
 partner-high-determined κs args x y end end' p q = p ∙ sym q
 
-pub cell-shows-determined : Determined 0 cell-shows-kinds.ps cell-shows-kinds.r cell-shows-reads.Post
-cell-shows-determined κs args x y end end' p q = p ∙ sym q
+pub pins-of-determined : Determined 0 pins-of-kinds.ps pins-of-kinds.r pins-of-reads.Post
+pins-of-determined κs args x y end end' p q = p ∙ sym q
 
 pub shown-mask-determined : Determined 0 shown-mask-kinds.ps shown-mask-kinds.r shown-mask-reads.Post
 shown-mask-determined κs args x y end end' p q = p ∙ sym q

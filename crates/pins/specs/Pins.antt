@@ -1,6 +1,7 @@
--- 01 "Ticks", its pins: IRQ, BZ and its partner, and whether a cell shows. Assumes nothing.
+-- 01 "Ticks", its pins: IRQ, BZ and its partner, whether a cell shows, and all that a chip shows. Assumes nothing.
 use Prim.Native.Nat.{ℕ, _+_, _*_, _%_}
 use mathlib.Core.Bool.{Bool, false, not, _&&_}
+use mathlib.Core.List.{map}
 use lib.Dec.{leb, ltb}
 use Rattle.clock.specs.declared.Timer.{Timer}
 use Rattle.settings.specs.declared.IrqSource.{IrqSource}
@@ -11,6 +12,8 @@ use Rattle.settings.specs.declared.Settings.{Settings}
 use Rattle.ground.specs.Bits.{bitNumber, bitAt}
 use Rattle.commands.specs.Numbers.{commonsNumber}
 use Rattle.ticks.specs.Ticks.{running}
+use Rattle.chip.specs.declared.Chip.{Chip}
+use Rattle.pins.specs.declared.Pins.{Pins}
 
 -- A source asks for IRQ: the time base while b is 128 or more, the flag while it is set.
 abbrev pub asserted : IrqSource → Timer → Bool
@@ -49,3 +52,14 @@ shownBit s nibble c = bitNumber (shows s c (bitAt c nibble))
 
 unfoldable pub shownNibble : Settings → ℕ → ℕ
 shownNibble s nibble = shownBit s nibble 0 + 2 * shownBit s nibble 1 + 4 * shownBit s nibble 2 + 8 * shownBit s nibble 3
+
+-- The pins of a chip. A cell shows as its address and common say (001's map): nibble s has the cells of SEG s, bit c that of COM c.
+unfoldable pub pinsShown : Chip → Pins
+pinsShown chip =
+    record {
+      irq = irqLow (chip .settings);
+      bz = bzHigh (chip .settings);
+      partner = partnerHigh (chip .settings);
+      line = chip .port .line;
+      cells = map (shownNibble (chip .settings)) (chip .port .memory);
+    }

@@ -1,12 +1,25 @@
-// What the pins show of the settings, as far as it needs no memory: IRQ, BZ and its partner, and whether a cell shows.
-// Assumes nothing.
+// What the pins of a chip show: IRQ, BZ and its partner, DATA and the cells. Assumes nothing.
 ghost use mathlib.Core.Path.{_≡_};
-ghost use Rattle.pins.specs.Pins.{asserted, wave, sounding, irqLow, bzHigh, partnerHigh, shows, shownNibble};
+ghost use mathlib.Core.List.{map};
+ghost use lib.Bits.{bitAnd};
+ghost use Rattle.pins.specs.Pins.{asserted, wave, sounding, irqLow, bzHigh, partnerHigh, shownNibble, pinsShown};
+use chip::Chip;
 use clock::Timer;
 use commands::Commons;
+use ground::ADDRESSES;
+use phases::Line;
 use settings::IrqSource;
 use settings::Pitch;
 use settings::Settings;
+
+// What the pins show: IRQ, BZ and its partner, DATA, and for each address the cells that show, bit c for common c.
+pub struct Pins {
+    pub irq: bool, // low
+    pub bz: bool, // high
+    pub partner: bool, // high
+    pub line: Line,
+    pub cells: [u8; ADDRESSES],
+}
 
 // Whether a source asks for IRQ.
 fn asserted_by(source: IrqSource, timer: Timer) -> bool
@@ -28,7 +41,7 @@ pub fn irq_low(settings: Settings) -> bool
         let source = irq.source;
         return asserted_by(source, settings.counters.timer);
     }
-    false // it floats
+    false
 }
 
 // Whether there is a tone.
@@ -60,7 +73,7 @@ pub fn bz_high(settings: Settings) -> bool
         let pitch = tone.pitch;
         return wave_of(pitch, settings.counters.toner.count);
     }
-    false // BZ is low
+    false
 }
 
 // Whether BZ's partner is high: the opposite of BZ while there is a tone.
@@ -70,25 +83,7 @@ pub fn partner_high(settings: Settings) -> bool
     if is_sounding(settings) {
         return !bz_high(settings);
     }
-    false // the partner is low
-}
-
-// Whether a cell shows, of common `common` and with `bit` for it in the memory.
-pub fn cell_shows(settings: Settings, common: u8, bit: bool) -> bool
-    ensures { λ r. ⌜ r ≡ shows settings common bit ⌝ }
-{
-    if !ticks::running(settings) {
-        return false;
-    }
-    let lcd = settings.lcd;
-    if !lcd.on {
-        return false;
-    }
-    let commons = lcd.commons;
-    if commons.number() <= common {
-        return false;
-    }
-    bit // of the memory
+    false
 }
 
 // The cells of an address that would show with all four bits set: whatever stands there, the cells that show are its
@@ -108,5 +103,35 @@ pub fn shown_mask(settings: Settings) -> u8
         Commons::Two => 3,
         Commons::Three => 7,
         Commons::Four => 15,
+    }
+}
+
+// Each nibble under a mask.
+fn under_mask(memory: [u8; ADDRESSES], mask: u8) -> [u8; ADDRESSES]
+    ensures { λ r. ⌜ r ≡ map (λ n. bitAnd n mask) memory ⌝ }
+{
+    let mut cells = memory;
+    let mut i: usize = 0;
+    while i < ADDRESSES {
+        cells[i] = memory[i] & mask;
+        i += 1;
+    }
+    cells
+}
+
+// What the pins show.
+pub fn pins_of(chip: Chip) -> Pins
+    ensures { λ r. ⌜ r ≡ pinsShown chip ⌝ }
+{
+    let settings = chip.settings;
+    let port = chip.port;
+    let memory = port.memory;
+    let line = port.line;
+    Pins {
+        irq: irq_low(settings),
+        bz: bz_high(settings),
+        partner: partner_high(settings),
+        line,
+        cells: under_mask(memory, shown_mask(settings)),
     }
 }

@@ -13,7 +13,7 @@ use Rattle.ground.specs.Written.{over}
 use Rattle.ground.proofs.WrittenLaws.{length-over, drop-over}
 use Rattle.ticks.specs.Ticks.{running}
 use Rattle.pins.specs.Pins.{irqLow, wave, sounding, bzHigh, partnerHigh, shows, shownNibble}
-use Rattle.chip.specs.Pins.{pinsShown}
+use Rattle.pins.specs.Pins.{pinsShown}
 use Rattle.state.specs.Selections.{sourceRead, isSource, biasRead, isBias, commonsRead, isCommons, pitchRead, isPitch, irqSourceRead, isIrqSource}
 use Rattle.state.specs.Record.{settingsRight, settingsOf, recordValid, chipOf}
 use Rattle.state.proofs.CodesLaws.{line-again, commons-again}

@@ -10,7 +10,7 @@ use lib.ListN.{length, getD}
 use borrow.Author.Tests.{le-ltb, eq-eqb}
 use Rattle.ground.specs.Places.{lowest, somewhere}
 use Rattle.ground.specs.declared.Outcome.the-variants.{Written}
-use Rattle.chip.specs.PowerOn.{poweredOn}
+use Rattle.power.specs.PowerOn.{poweredOn}
 use Rattle.state.specs.Record.{recordOf, tailOf}
 use Rattle.host.specs.Host.{hostCode, powerOnRecord, powerOnAnswer, powerOnReturns, powerOnBytes}
 use Rattle.host.proofs.HostLaws.{power-on-size}

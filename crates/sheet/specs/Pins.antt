@@ -6,7 +6,7 @@ use Prim.Native.Nat.{ℕ, _+_, _*_, _%_, _≤_}
 use lib.Dec.{eqb, ltb, leb}
 use lib.ListN.{length, drop}
 use Rattle.ground.specs.Bits.{bitAt, bitNumber}
-use Rattle.chip.specs.Pins.{pinsShown}
+use Rattle.pins.specs.Pins.{pinsShown}
 use Rattle.state.specs.Record.{recordValid, chipOf}
 use Rattle.simulator.specs.Simulator.{pinsReturns, pinsBytes}
 use Rattle.sheet.specs.Bytes.{byte, runs}

@@ -30,7 +30,7 @@ use Rattle.frames.specs.declared.Upshot.{Upshot}
 use Rattle.frames.specs.declared.Upshot.the-variants.{Answered, Nibble, Code}
 use Rattle.chip.specs.Chip.{decodedAnswer, obeyedAs, told, settingsAfter, steppedTo, stepped, advanced}
 use Rattle.port.specs.Port.{moved}
-use Rattle.chip.specs.Pins.{pinsShown}
+use Rattle.pins.specs.Pins.{pinsShown}
 use Rattle.chip.specs.Valid.{Valid}
 use Rattle.chip.proofs.ValidLaws.{stepped-valid}
 use Rattle.state.specs.declared.Reading.{Reading}

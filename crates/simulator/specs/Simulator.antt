@@ -13,9 +13,9 @@ use Rattle.ground.specs.Written.{over}
 use Rattle.answers.specs.declared.Answer.{Answer}
 use Rattle.phases.specs.Phases.{lineNumber}
 use Rattle.answers.specs.Answers.{answerNumber, firstDetail, secondDetail}
-use Rattle.chip.specs.declared.Pins.{Pins}
+use Rattle.pins.specs.declared.Pins.{Pins}
 use Rattle.chip.specs.Chip.{stepped, advanced}
-use Rattle.chip.specs.Pins.{pinsShown}
+use Rattle.pins.specs.Pins.{pinsShown}
 use Rattle.state.specs.Record.{recordValid, recordOf, chipOf}
 
 -- An answer and its two details as one number, a byte each, the answer lowest.

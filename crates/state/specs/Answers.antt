@@ -13,7 +13,7 @@ use Rattle.ground.specs.Outcomes.{left, leftFrom, refusedIf, ladder}
 use Rattle.clock.specs.declared.Counters.{Counters}
 use Rattle.port.specs.declared.Port.{Port}
 use Rattle.chip.specs.declared.Chip.{Chip}
-use Rattle.chip.specs.PowerOn.{emptyChip}
+use Rattle.power.specs.PowerOn.{emptyChip}
 use Rattle.state.specs.declared.SettingsRead.{SettingsRead}
 use Rattle.state.specs.declared.SettingsRead.the-variants.{Set, NoSettings}
 use Rattle.state.specs.declared.Reading.{Reading}

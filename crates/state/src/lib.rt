@@ -427,7 +427,7 @@ fn not_valid() -> Reading
 {
     Reading {
         answer: Verdict::Malformed,
-        chip: chip::empty(),
+        chip: power::empty(),
     }
 }
 

@@ -9,7 +9,7 @@ use lib.Dec.{ltb}
 use lib.ListN.{length, length-append}
 use Rattle.ground.specs.Written.{Wrote}
 use Rattle.ground.proofs.WrittenLaws.{length-over}
-use Rattle.transcript.specs.Listing.{digits, decimal, field}
+use Rattle.listed.specs.Listing.{digits, decimal, field}
 
 -- the digits of the tenth, and then the last
 next-digit : (most n : ℕ) {more : List ℕ} {last : ℕ} → 10 ≤ n → digits most (n / 10) ≡ more → last ≡ 48 + n % 10

@@ -1,4 +1,3 @@
-pub mod Cases
 pub mod DecimalLaws
 pub mod Determined
 pub mod LineLaws

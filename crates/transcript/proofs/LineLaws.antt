@@ -21,11 +21,11 @@ use Rattle.answers.specs.declared.Numbers.{Numbers}
 use Rattle.answers.specs.Answers.{answerNumber, firstDetail, secondDetail, numbers}
 use Rattle.chip.specs.declared.Chip.{Chip}
 use Rattle.chip.specs.Chip.{stepped, ticked}
-use Rattle.chip.specs.PowerOn.{emptyChip}
-use Rattle.transcript.specs.declared.Class.{Class}
-use Rattle.transcript.specs.declared.Class.the-variants.{Sample, Tick, Skipped, Bad}
-use Rattle.transcript.specs.Listing.{listAnswer, lists, listFrom, listing, roomFor}
-use Rattle.transcript.specs.Listing.{space, newline, field, line, answerLine, bad, badLine, end, endLine, classOf}
+use Rattle.power.specs.PowerOn.{emptyChip}
+use Rattle.listed.specs.declared.Class.{Class}
+use Rattle.listed.specs.declared.Class.the-variants.{Sample, Tick, Skipped, Bad}
+use Rattle.listed.specs.Listing.{listAnswer, lists, listFrom, listing, roomFor}
+use Rattle.listed.specs.Listing.{space, newline, field, line, answerLine, bad, badLine, end, endLine, classOf}
 use Rattle.transcript.proofs.DecimalLaws.{length-field}
 
 pub length-line : (number kind first second : ℕ) → length (line number kind first second) ≤ 24

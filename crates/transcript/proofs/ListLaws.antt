@@ -13,10 +13,10 @@ use Rattle.settings.specs.declared.Settings.{Settings}
 use Rattle.chip.specs.declared.Chip.{Chip}
 use Rattle.chip.specs.declared.Stepped.{Stepped}
 use Rattle.chip.specs.Chip.{stepped, ticked}
-use Rattle.chip.specs.PowerOn.{emptyChip}
-use Rattle.transcript.specs.declared.Class.{Class}
-use Rattle.transcript.specs.declared.Class.the-variants.{Sample, Tick, Skipped, Bad}
-use Rattle.transcript.specs.Listing.{answerLine, badLine, endLine, classOf, lists, listFrom}
+use Rattle.power.specs.PowerOn.{emptyChip}
+use Rattle.listed.specs.declared.Class.{Class}
+use Rattle.listed.specs.declared.Class.the-variants.{Sample, Tick, Skipped, Bad}
+use Rattle.listed.specs.Listing.{answerLine, badLine, endLine, classOf, lists, listFrom}
 use Rattle.transcript.proofs.DecimalLaws.{wrote-length}
 use Rattle.transcript.proofs.LineLaws.{length-answerLine, length-listFrom}
 

@@ -6,21 +6,14 @@ ghost use lib.Dec.{leb};
 ghost use lib.ListN.{length};
 ghost use Rattle.ground.specs.Outcomes.{ComesTo};
 ghost use Rattle.ground.specs.Written.{Wrote};
-ghost use Rattle.chip.specs.PowerOn.{emptyChip};
-ghost use Rattle.transcript.specs.Listing.{classOf, field, line, answerLine, badLine, endLine};
-ghost use Rattle.transcript.specs.Listing.{listFrom, listing, roomFor, listAnswer};
+ghost use Rattle.power.specs.PowerOn.{emptyChip};
+ghost use Rattle.listed.specs.Listing.{classOf, field, line, answerLine, badLine, endLine};
+ghost use Rattle.listed.specs.Listing.{listFrom, listing, roomFor, listAnswer};
 use answers::Answer;
 use chip::Chip;
 use ground::Outcome;
 use ground::Refusal;
-
-// What a byte of the input is.
-enum Class {
-    Sample(u8),
-    Tick,
-    Skipped,
-    Bad,
-}
+use listed::Class;
 
 fn between(low: u8, byte: u8, high: u8) -> bool
     ensures { λ r. ⌜ r ≡ (leb low byte && leb byte high) ⌝ }
@@ -148,7 +141,7 @@ fn put_lines(input: &[u8], out: &mut [u8]) -> usize
     requires { ⌜ (length (now input) ≤ 65536) × (24 * length (now input) + 16 ≤ length (now out)) ⌝ }
     ensures { λ r. ⌜ Wrote (now (out .entry)) 0 (listFrom emptyChip 0 0 0 (now (input .entry))) (now (out .exit)) r ⌝ }
 {
-    let empty = chip::empty();
+    let empty = power::empty();
     let mut port = empty.port;
     let mut settings = empty.settings;
     let mut at: usize = 0;

@@ -6,7 +6,7 @@ use native.Mathlib.Omega.{arith}
 use lib.Dec.{leb}
 use borrow.Author.Tests.{eq-eqb, ne-eqb, leb-true}
 use borrow.Author.Needs.{needs}
-use Rattle.transcript.specs.Listing.{classOf}
+use Rattle.listed.specs.Listing.{classOf}
 use Rattle.transcript.proofs.classify.Statement.{statement}
 use Rattle.transcript.proofs.classify.Tie as tie
 

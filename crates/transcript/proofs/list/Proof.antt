@@ -10,8 +10,8 @@ use Rattle.ground.specs.declared.Outcome.the-variants.{Written, Refused}
 use Rattle.ground.specs.Outcomes.{ComesTo}
 use Rattle.ground.specs.Written.{over, Wrote}
 use Rattle.ground.proofs.OutcomesLaws.{refuses, succeeds}
-use Rattle.chip.specs.PowerOn.{emptyChip}
-use Rattle.transcript.specs.Listing.{long, listFrom, listing, roomFor, listAnswer}
+use Rattle.power.specs.PowerOn.{emptyChip}
+use Rattle.listed.specs.Listing.{long, listFrom, listing, roomFor, listAnswer}
 use borrow.Author.Needs.{needs}
 use Rattle.transcript.proofs.list.Statement.{statement}
 use Rattle.transcript.proofs.list.Tie as tie

@@ -1,6 +1,6 @@
 -- `transcript::put_end` meets its contract: the fixed bytes, then the two numbers. Assumes nothing.
 use native.Mathlib.Omega.{arith}
-use Rattle.transcript.specs.Listing.{space}
+use Rattle.listed.specs.Listing.{space}
 use Rattle.transcript.proofs.DecimalLaws.{length-field}
 use Rattle.transcript.proofs.LineLaws.{end-wrote}
 use borrow.Author.Needs.{needs}

@@ -1,6 +1,6 @@
 -- `transcript::put_line` meets its contract: four fields, each right after the one before. Assumes nothing.
 use native.Mathlib.Omega.{arith}
-use Rattle.transcript.specs.Listing.{space}
+use Rattle.listed.specs.Listing.{space}
 use Rattle.transcript.proofs.DecimalLaws.{length-field}
 use Rattle.transcript.proofs.LineLaws.{line-wrote}
 use borrow.Author.Needs.{needs}

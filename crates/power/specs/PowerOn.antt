@@ -3,6 +3,7 @@ use Prim.Native.Nat.{ℕ}
 use mathlib.Core.Bool.{not}
 use mathlib.Core.List.{List, [], _∷_}
 use lib.Dec.{eqb, ltb}
+use Rattle.ground.specs.Sizes.{addresses}
 use lib.ListN.{length, replicate}
 use Rattle.ground.specs.declared.Refusal.{Refusal}
 use Rattle.ground.specs.declared.Refusal.the-variants.{NibbleAbove, MemoryCount}
@@ -13,10 +14,10 @@ use Rattle.rules.specs.Effects.{powerOn}
 use Rattle.phases.specs.declared.Phase.the-variants.{Idle}
 use Rattle.phases.specs.declared.Line.the-variants.{Released}
 use Rattle.lines.specs.Samples.{levels}
 use Rattle.chip.specs.declared.Chip.{Chip}
-use Rattle.chip.specs.declared.Start.{Start}
-use Rattle.chip.specs.declared.Start.the-variants.{On, Refused}
-use Rattle.chip.specs.declared.PoweredOn.{PoweredOn}
+use Rattle.power.specs.declared.Start.{Start}
+use Rattle.power.specs.declared.Start.the-variants.{On, Refused}
+use Rattle.power.specs.declared.PoweredOn.{PoweredOn}
 
 -- The paper's number and place for an answer: 0 where the chip is on, else the refusal's.
 abbrev pub startNumber : Start → ℕ
@@ -37,15 +38,15 @@ freshChip memory =
 
 -- With an empty memory: 01 "The listing" begins so, and a refusal hands out such a chip.
 unfoldable pub emptyChip : Chip
-emptyChip = freshChip (replicate 32 0)
+emptyChip = freshChip (replicate addresses 0)
 
 abbrev pub notStarted : Refusal → PoweredOn
 notStarted refusal = record { answer = Refused refusal; chip = emptyChip }
 
--- Its refusals, in order: 29 where the memory is not 32 values, and 23 at the lowest value above 15.
+-- Its refusals, in order: 29 where the memory has not a value for each address, and 23 at the lowest value above 15.
 abbrev pub powerOnRefusals : List ℕ → List Rung
 powerOnRefusals memory =
-    refusedIf (not (eqb (length memory) 32)) MemoryCount
+    refusedIf (not (eqb (length memory) addresses)) MemoryCount
     ∷ refusedIf (somewhere (ltb 15) memory) (NibbleAbove (lowest (ltb 15) memory)) ∷ []
 
 unfoldable pub poweredOn : List ℕ → PoweredOn

@@ -1,4 +1,4 @@
--- `chip::under_mask` meets its contract: the cells before `i` are under the mask. Assumes nothing.
+-- `pins::under_mask` meets its contract: the cells before `i` are under the mask. Assumes nothing.
 use mathlib.Core.Path.{_≡_, _∙_, sym, ap}
 use mathlib.Core.List.{List, map}
 use Prim.Native.Nat.{ℕ, _+_, _-_, _≤_, _<_}
@@ -9,8 +9,8 @@ use lib.ListN.{length, getD, set, length-map}
 use lib.Seq.{paste, paste-zero}
 use Rattle.ground.proofs.BitsLaws.{masked-at}
 use Rattle.ground.proofs.WrittenLaws.{paste-next, paste-whole}
-use Rattle.chip.proofs.under_mask.Statement.{statement}
-use Rattle.chip.proofs.under_mask.Tie as tie
+use Rattle.pins.proofs.under_mask.Statement.{statement}
+use Rattle.pins.proofs.under_mask.Tie as tie
 
 abbrev masked : ℕ → List ℕ → List ℕ
 masked mask memory = map (λ n. bitAnd n mask) memory

@@ -1,8 +1,8 @@
--- `chip::empty` meets its contract. Assumes nothing.
-use Rattle.chip.specs.PowerOn.{emptyChip}
+-- `power::empty` meets its contract. Assumes nothing.
+use Rattle.power.specs.PowerOn.{emptyChip}
 use borrow.Author.Needs.{needs}
-use Rattle.chip.proofs.empty.Statement.{statement}
-use Rattle.chip.proofs.empty.Tie as tie
+use Rattle.power.proofs.empty.Statement.{statement}
+use Rattle.power.proofs.empty.Tie as tie
 
 fresh-requires : tie.Need-fresh-requires
 fresh-requires c κs = search needs

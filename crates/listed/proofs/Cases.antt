@@ -5,9 +5,9 @@ use Prim.Native.Nat.{ℕ}
 use Rattle.frames.specs.Frames.{identified, identTaken, writeToTaken, nibbleTaken, taken, closed, frame}
 use Rattle.port.specs.Port.{memoryAfter, framedBy, moved}
 use Rattle.chip.specs.Chip.{settingsAfter, stepped, steppedTo}
-use Rattle.chip.specs.PowerOn.{emptyChip}
-use Rattle.transcript.specs.Listing.{classOf, digits, decimal, field, line, answerLine, badLine, endLine}
-use Rattle.transcript.specs.Listing.{listFrom, listing}
+use Rattle.power.specs.PowerOn.{emptyChip}
+use Rattle.listed.specs.Listing.{classOf, digits, decimal, field, line, answerLine, badLine, endLine}
+use Rattle.listed.specs.Listing.{listFrom, listing}
 
 -- `fece46ce46464646cecece46ce46f` writes 5 at address 3
 abbrev writes-5 : List ℕ

@@ -1,7 +1,7 @@
--- `chip::fresh` meets its contract. Assumes nothing.
+-- `power::fresh` meets its contract. Assumes nothing.
 use borrow.Author.Needs.{needs}
-use Rattle.chip.proofs.fresh.Statement.{statement}
-use Rattle.chip.proofs.fresh.Tie as tie
+use Rattle.power.proofs.fresh.Statement.{statement}
+use Rattle.power.proofs.fresh.Tie as tie
 
 levels-of-requires : tie.Need-levels-of-requires
 levels-of-requires c κs = search needs

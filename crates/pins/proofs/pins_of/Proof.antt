@@ -1,9 +1,9 @@
--- `chip::Chip::pins` meets its contract. Assumes nothing.
+-- `pins::pins_of` meets its contract. Assumes nothing.
 use Rattle.pins.proofs.PinsLaws.{shown-under-mask}
-use Rattle.chip.specs.Pins.{pinsShown}
+use Rattle.pins.specs.Pins.{pinsShown}
 use borrow.Author.Needs.{needs}
-use Rattle.chip.proofs.Chip.pins.Statement.{statement}
-use Rattle.chip.proofs.Chip.pins.Tie as tie
+use Rattle.pins.proofs.pins_of.Statement.{statement}
+use Rattle.pins.proofs.pins_of.Tie as tie
 
 irq-low-requires : tie.Need-irq-low-requires
 irq-low-requires c κs = search needs
@@ -32,8 +32,8 @@ returns c =
       shown-under-mask,
     )
 
-pub pins-spec : {M : Type 1} → statement M
-pins-spec =
+pub pins-of-spec : {M : Type 1} → statement M
+pins-of-spec =
     tie.close
     (tie.spec
     irq-low-requires

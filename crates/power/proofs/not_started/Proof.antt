@@ -1,7 +1,7 @@
--- `chip::not_started` meets its contract. Assumes nothing.
+-- `power::not_started` meets its contract. Assumes nothing.
 use borrow.Author.Needs.{needs}
-use Rattle.chip.proofs.not_started.Statement.{statement}
-use Rattle.chip.proofs.not_started.Tie as tie
+use Rattle.power.proofs.not_started.Statement.{statement}
+use Rattle.power.proofs.not_started.Tie as tie
 
 empty-requires : tie.Need-empty-requires
 empty-requires c κs = search needs

@@ -11,9 +11,9 @@ use Rattle.answers.specs.declared.Answer.{Answer}
 use Rattle.answers.specs.Answers.{answerNumber, firstDetail, secondDetail}
 use Rattle.chip.specs.declared.Chip.{Chip}
 use Rattle.chip.specs.Chip.{stepped, ticked}
-use Rattle.chip.specs.PowerOn.{emptyChip}
-use Rattle.transcript.specs.declared.Class.{Class}
-use Rattle.transcript.specs.declared.Class.the-variants.{Sample, Tick, Skipped, Bad}
+use Rattle.power.specs.PowerOn.{emptyChip}
+use Rattle.listed.specs.declared.Class.{Class}
+use Rattle.listed.specs.declared.Class.the-variants.{Sample, Tick, Skipped, Bad}
 
 -- Bytes by their ASCII codes: `0` is 48, `9` 57, `a` 97, `f` 102, `t` 116, a space 32, a newline 10.
 abbrev pub space : ℕ

@@ -1,11 +1,11 @@
--- `chip::power_on` meets its contract. Assumes nothing.
+-- `power::power_on` meets its contract. Assumes nothing.
 use mathlib.Core.Path.{sym}
-use Rattle.chip.specs.PowerOn.{poweredOn}
+use Rattle.power.specs.PowerOn.{poweredOn}
 use Rattle.ground.proofs.WrittenLaws.{memoryFrom-all}
 use borrow.Author.Tests.{lt-ltb, le-ltb, eq-eqb, ne-eqb}
 use borrow.Author.Needs.{needs}
-use Rattle.chip.proofs.power_on.Statement.{statement}
-use Rattle.chip.proofs.power_on.Tie as tie
+use Rattle.power.proofs.power_on.Statement.{statement}
+use Rattle.power.proofs.power_on.Tie as tie
 
 not-started-requires : tie.Need-not-started-requires
 not-started-requires c κs = search needs

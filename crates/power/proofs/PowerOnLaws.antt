@@ -5,19 +5,23 @@ use mathlib.Core.Bool.{Bool, true, false, cond, not}
 use mathlib.Core.List.{List}
 use Prim.Native.Nat.{ℕ}
 use lib.Dec.{eqb, ltb}
+use Rattle.ground.specs.Sizes.{addresses}
 use lib.ListN.{length}
 use Rattle.ground.specs.declared.Refusal.the-variants.{NibbleAbove, MemoryCount}
 use Rattle.ground.specs.Places.{lowest, somewhere}
-use Rattle.chip.specs.declared.PoweredOn.{PoweredOn}
-use Rattle.chip.specs.declared.Start.the-variants.{On}
-use Rattle.chip.specs.PowerOn.{startNumber, startPlace, freshChip, notStarted, poweredOn}
+use Rattle.port.specs.Valid.{Nibbles}
+use Rattle.rules.proofs.ValidLaws.{powerOn-valid}
+use Rattle.chip.specs.Valid.{Valid}
+use Rattle.power.specs.declared.PoweredOn.{PoweredOn}
+use Rattle.power.specs.declared.Start.the-variants.{On}
+use Rattle.power.specs.PowerOn.{startNumber, startPlace, freshChip, notStarted, poweredOn}
 
 pub start-told : (memory : List ℕ)
-    → (startNumber (poweredOn memory .answer) ≡ cond (eqb (length memory) 32) (cond (somewhere (ltb 15) memory) 23 0) 29)
+    → (startNumber (poweredOn memory .answer) ≡ cond (eqb (length memory) addresses) (cond (somewhere (ltb 15) memory) 23 0) 29)
     × (startPlace (poweredOn memory .answer)
-    ≡ cond (eqb (length memory) 32) (cond (somewhere (ltb 15) memory) (lowest (ltb 15) memory) 0) 0)
+    ≡ cond (eqb (length memory) addresses) (cond (somewhere (ltb 15) memory) (lowest (ltb 15) memory) 0) 0)
 unfolding poweredOn
-start-told memory = (by (eqb (length memory) 32) (somewhere (ltb 15) memory) .0, by (eqb (length memory) 32) (somewhere (ltb 15) memory) .1)
+start-told memory = (by (eqb (length memory) addresses) (somewhere (ltb 15) memory) .0, by (eqb (length memory) addresses) (somewhere (ltb 15) memory) .1)
   where
     started : Bool → Bool → PoweredOn
     started long above =
@@ -29,3 +33,8 @@ start-told memory = (by (eqb (length memory) 32) (somewhere (ltb 15) memory) .0,
     by true true = (refl, refl)
     by true false = (refl, refl)
     by false above = (refl, refl)
+
+-- power-on gives a valid chip
+pub freshChip-valid : (memory : List ℕ) → length memory ≡ addresses → Nibbles memory → Valid (freshChip memory)
+freshChip-valid memory size nibbles =
+    record { port = record { size = size; nibbles = nibbles; frame = (refl, refl) }; settings = powerOn-valid }

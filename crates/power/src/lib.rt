@@ -1,0 +1,69 @@
+// Power-on of a chip. Assumes nothing.
+ghost use mathlib.Core.Path.{_≡_};
+ghost use Rattle.power.specs.PowerOn.{freshChip, emptyChip, notStarted, poweredOn};
+use chip::Chip;
+use ground::ADDRESSES;
+use ground::Refusal;
+use phases::Line;
+use phases::Phase;
+use port::Port;
+
+// Whether power-on was accepted.
+pub enum Start {
+    On,
+    Refused(Refusal),
+}
+
+// A chip that was powered on; where that was refused, one with zeros for its memory.
+pub struct PoweredOn {
+    pub answer: Start,
+    pub chip: Chip,
+}
+
+// A chip that has just been powered on with this memory.
+fn fresh(memory: [u8; ADDRESSES]) -> Chip
+    ensures { λ r. ⌜ r ≡ freshChip memory ⌝ }
+{
+    Chip {
+        port: Port {
+            memory,
+            levels: lines::levels_of(15),
+            phase: Phase::Idle,
+            line: Line::Released,
+        },
+        settings: rules::power_on(),
+    }
+}
+
+// A chip at power-on with an empty memory: where a listing begins, and what is handed out beside a refusal.
+pub fn empty() -> Chip
+    ensures { λ r. ⌜ r ≡ emptyChip ⌝ }
+{
+    fresh([0u8; ADDRESSES])
+}
+
+fn not_started(refusal: Refusal) -> PoweredOn
+    ensures { λ r. ⌜ r ≡ notStarted refusal ⌝ }
+{
+    PoweredOn {
+        answer: Start::Refused(refusal),
+        chip: empty(),
+    }
+}
+
+// A chip at power-on, with 32 nibbles for its memory.
+pub fn power_on(memory: &[u8]) -> PoweredOn
+    ensures { λ r. ⌜ r ≡ poweredOn (now (memory .entry)) ⌝ }
+{
+    if memory.len() != ADDRESSES {
+        return not_started(Refusal::MemoryCount);
+    }
+    let place = ground::first_above(memory, 15);
+    if place < memory.len() {
+        return not_started(Refusal::NibbleAbove(place));
+    }
+    PoweredOn {
+        answer: Start::On,
+        chip: fresh(ground::memory_from(memory)),
+    }
+}
