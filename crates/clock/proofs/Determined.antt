@@ -2,12 +2,17 @@
 -- Assumes nothing.
 use mathlib.Core.Path.{_∙_, sym}
 use Rattle.ground.specs.Determined.{Determined}
+use Rattle.clock.proofs.Source.number.Kinds as source-number-kinds
+use Rattle.clock.proofs.Source.number.Reads as source-number-reads
 use Rattle.clock.proofs.Timer.cleared.Kinds as cleared-kinds
 use Rattle.clock.proofs.Timer.cleared.Reads as cleared-reads
 use Rattle.clock.proofs.Timer.watchdog_cleared.Kinds as watchdog-cleared-kinds
 use Rattle.clock.proofs.Timer.watchdog_cleared.Reads as watchdog-cleared-reads
 use Rattle.clock.proofs.Counters.ticked.Kinds as ticked-kinds
 use Rattle.clock.proofs.Counters.ticked.Reads as ticked-reads
+
+pub source-number-determined : Determined 0 source-number-kinds.ps source-number-kinds.r source-number-reads.Post
+source-number-determined κs args x y end end' p q = p ∙ sym q
 
 pub cleared-determined : Determined 0 cleared-kinds.ps cleared-kinds.r cleared-reads.Post
 cleared-determined κs args x y end end' p q = p ∙ sym q

@@ -10,17 +10,18 @@ use Rattle.clock.specs.declared.Source.{Source}
 use Rattle.clock.specs.declared.Source.the-variants.{Xtal, Rc, Ext}
 use Rattle.clock.specs.declared.Timer.{Timer}
 use Rattle.clock.specs.declared.Counters.{Counters}
+use Rattle.clock.specs.Sizes.{prescalerSize, dividerSize, baseSize, watchdogSize}
 use Rattle.clock.specs.Ticks.{due, timerStepped, baseTicked, prescaledTick, countersTicked, timerCleared, watchdogCleared}
 use Rattle.clock.specs.Valid.{TimerValid, CountersValid}
 
 pub timerStepped-valid : (rate : ℕ) (t : Timer) → TimerValid t → TimerValid (timerStepped rate t)
 unfolding timerStepped
 timerStepped-valid rate t v =
-    either TimerValid (due rate ((t .divider .count + 1) % 128))
+    either TimerValid (due rate ((t .divider .count + 1) % dividerSize))
     (record {
       divider = omega arith;
       base = omega arith;
-      watchdog = either (λ (w : Watchdog). w .count < 4) (eqb ((t .base .count + 1) % 256) 0) (omega arith) (v .watchdog);
+      watchdog = either (λ (w : Watchdog). w .count < watchdogSize) (eqb ((t .base .count + 1) % baseSize) 0) (omega arith) (v .watchdog);
     })
     (record { divider = omega arith; base = v .base; watchdog = v .watchdog })
 
@@ -36,9 +37,9 @@ baseTicked-valid on rate c v =
 pub prescaledTick-valid : (on : Bool) (rate : ℕ) (c : Counters) → CountersValid c → CountersValid (prescaledTick on rate c)
 unfolding prescaledTick
 prescaledTick-valid on rate c v =
-    let next : Counters = record { prescaler = record { count = (c .prescaler .count + 1) % 8 }; toner = c .toner; timer = c .timer } in
+    let next : Counters = record { prescaler = record { count = (c .prescaler .count + 1) % prescalerSize }; toner = c .toner; timer = c .timer } in
     let kept : CountersValid next = record { prescaler = omega arith; toner = v .toner; timer = v .timer } in
-    either CountersValid (eqb ((c .prescaler .count + 1) % 8) 0) (baseTicked-valid on rate next kept) kept
+    either CountersValid (eqb ((c .prescaler .count + 1) % prescalerSize) 0) (baseTicked-valid on rate next kept) kept
 
 pub countersTicked-valid : (source : Source) (on : Bool) (rate : ℕ) (c : Counters) → CountersValid c
     → CountersValid (countersTicked source on rate c)

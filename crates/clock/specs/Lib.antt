@@ -1,3 +1,4 @@
 pub mod Numbers
+pub mod Sizes
 pub mod Ticks
 pub mod Valid

@@ -3,6 +3,7 @@
 use Prim.Native.Nat.{ℕ, _+_, _-_, _%_, _^_}
 use mathlib.Core.Bool.{Bool, false, cond, _||_}
 use lib.Dec.{eqb}
+use Rattle.clock.specs.Sizes.{prescalerSize, tonerSize, dividerSize, baseSize, watchdogSize}
 use Rattle.clock.specs.declared.Source.{Source}
 use Rattle.clock.specs.declared.Source.the-variants.{Xtal, Rc, Ext}
 use Rattle.clock.specs.declared.Prescaler.{Prescaler}
@@ -13,22 +14,22 @@ use Rattle.clock.specs.declared.Watchdog.{Watchdog}
 use Rattle.clock.specs.declared.Timer.{Timer}
 use Rattle.clock.specs.declared.Counters.{Counters}
 
--- Each counter steps modulo its own size: p 8, q 16, d 128, b 256, w 4.
+-- Each counter steps modulo its own size.
 abbrev pub prescalerStepped : Prescaler → Prescaler
-prescalerStepped p = record { count = (p .count + 1) % 8 }
+prescalerStepped p = record { count = (p .count + 1) % prescalerSize }
 
 abbrev pub tonerStepped : Toner → Toner
-tonerStepped q = record { count = (q .count + 1) % 16 }
+tonerStepped q = record { count = (q .count + 1) % tonerSize }
 
 abbrev pub dividerStepped : Divider → Divider
-dividerStepped d = record { count = (d .count + 1) % 128 }
+dividerStepped d = record { count = (d .count + 1) % dividerSize }
 
 abbrev pub baseStepped : BaseCounter → BaseCounter
-baseStepped b = record { count = (b .count + 1) % 256 }
+baseStepped b = record { count = (b .count + 1) % baseSize }
 
 -- A full round of w sets the flag, which then stays.
 abbrev pub watchdogStepped : Watchdog → Watchdog
-watchdogStepped w = record { count = (w .count + 1) % 4; flag = eqb ((w .count + 1) % 4) 0 || w .flag }
+watchdogStepped w = record { count = (w .count + 1) % watchdogSize; flag = eqb ((w .count + 1) % watchdogSize) 0 || w .flag }
 
 -- The rate's turn: 2^(7-r) divides d.
 unfoldable pub due : ℕ → ℕ → Bool

@@ -1,6 +1,18 @@
 // The clock's counters: each is a small struct that goes in by value and comes back stepped.
 ghost use mathlib.Core.Path.{_≡_};
+ghost use Rattle.clock.specs.Numbers.{sourceNumber};
 ghost use Rattle.clock.specs.Ticks.{prescalerStepped, tonerStepped, dividerStepped, baseStepped, watchdogStepped, due, timerStepped, baseTicked, prescaledTick, countersTicked, timerCleared, watchdogCleared};
+
+// How many values each counter goes through.
+pub const PRESCALER_SIZE: u16 = 8;
+
+pub const TONER_SIZE: u16 = 16;
+
+pub const DIVIDER_SIZE: u16 = 128;
+
+pub const BASE_SIZE: u16 = 256;
+
+pub const WATCHDOG_SIZE: u16 = 4;
 
 // Where the system clock comes from.
 pub enum Source {
@@ -48,12 +60,25 @@ pub struct Counters {
     pub timer: Timer,
 }
 
+impl Source {
+    // Its number in the state record.
+    pub fn number(self) -> u8
+        ensures { λ r. ⌜ r ≡ sourceNumber self ⌝ }
+    {
+        match self {
+            Source::Xtal => 0,
+            Source::Rc => 1,
+            Source::Ext => 2,
+        }
+    }
+}
+
 impl Prescaler {
     fn stepped(self) -> Prescaler
         ensures { λ r. ⌜ r ≡ prescalerStepped self ⌝ }
     {
         Prescaler {
-            count: ((self.count as u16 + 1) % 8) as u8,
+            count: ((self.count as u16 + 1) % PRESCALER_SIZE) as u8,
         }
     }
 }
@@ -63,7 +88,7 @@ impl Toner {
         ensures { λ r. ⌜ r ≡ tonerStepped self ⌝ }
     {
         Toner {
-            count: ((self.count as u16 + 1) % 16) as u8,
+            count: ((self.count as u16 + 1) % TONER_SIZE) as u8,
         }
     }
 }
@@ -73,7 +98,7 @@ impl Divider {
         ensures { λ r. ⌜ r ≡ dividerStepped self ⌝ }
     {
         Divider {
-            count: ((self.count as u16 + 1) % 128) as u8,
+            count: ((self.count as u16 + 1) % DIVIDER_SIZE) as u8,
         }
     }
 
@@ -84,8 +109,8 @@ impl Divider {
         if 7 <= rate {
             return true;
         }
-        let period: u8 = 128 >> rate;
-        self.count % period == 0
+        let period = DIVIDER_SIZE >> rate;
+        self.count as u16 % period == 0
     }
 }
 
@@ -94,7 +119,7 @@ impl BaseCounter {
         ensures { λ r. ⌜ r ≡ baseStepped self ⌝ }
     {
         BaseCounter {
-            count: ((self.count as u16 + 1) % 256) as u8,
+            count: ((self.count as u16 + 1) % BASE_SIZE) as u8,
         }
     }
 }
@@ -103,7 +128,7 @@ impl Watchdog {
     fn stepped(self) -> Watchdog
         ensures { λ r. ⌜ r ≡ watchdogStepped self ⌝ }
     {
-        let count = ((self.count as u16 + 1) % 4) as u8;
+        let count = ((self.count as u16 + 1) % WATCHDOG_SIZE) as u8;
         Watchdog {
             count,
             flag: count == 0 || self.flag,

@@ -2,7 +2,7 @@
 ghost use mathlib.Core.Path.{_≡_};
 ghost use Rattle.ground.specs.Places.{lowest};
 ghost use Rattle.commands.specs.Commands.{codeMeaning, commandFault};
-ghost use Rattle.commands.specs.Numbers.{commonsNumber, decodedNumber};
+ghost use Rattle.commands.specs.Numbers.{biasNumber, commonsNumber, decodedNumber};
 
 mod table; // table.rt: the 512 entries
 
@@ -17,6 +17,18 @@ pub enum Commons {
     Two,
     Three,
     Four,
+}
+
+impl Bias {
+    // Its number in the state record: 2 for 1/2, 3 for 1/3.
+    pub fn number(self) -> u8
+        ensures { λ r. ⌜ r ≡ biasNumber self ⌝ }
+    {
+        match self {
+            Bias::Half => 2,
+            Bias::Third => 3,
+        }
+    }
 }
 
 impl Commons {

@@ -12,11 +12,21 @@ use lib.Pow.{pow-mono}
 use mir.Val.{boolByte}
 use Rattle.ground.specs.Bits.{bitNumber, bitAt}
 
--- a bit as a number, and as a byte
+-- a bit as a number, and read again
 pub bitNumber-small : (bit : Bool) → bitNumber bit ≤ 1
 bitNumber-small true = omega arith
 bitNumber-small false = omega arith
 
+pub bitNumber-back : (bit : Bool) → eqb (bitNumber bit) 1 ≡ bit
+bitNumber-back true = refl
+bitNumber-back false = refl
+
+pub bitNumber-again : (n : ℕ) → n ≤ 1 → bitNumber (eqb n 1) ≡ n
+bitNumber-again zero h = refl
+bitNumber-again (suc zero) h = refl
+bitNumber-again (suc (suc n)) h = let no : ⊥ = omega arith in absurd no
+
+-- a bit as a byte
 pub boolByte-small : (bit : Bool) → boolByte bit ≤ 1
 boolByte-small true = omega arith
 boolByte-small false = omega arith
@@ -32,12 +42,6 @@ bitAt-past i n small past =
     let none : n / 2 ^ i ≡ 0 = div-eq-of-lt (lt-of-lt-of-le small (pow-mono past)) in
     simp none
 
--- a number below 2 is the number of a bit
-pub bitNumber-test : (x : ℕ) → x < 2 → bitNumber (eqb x 1) ≡ x
-bitNumber-test zero h = refl
-bitNumber-test (suc zero) h = refl
-bitNumber-test (suc (suc x)) h = let no : ⊥ = omega arith in absurd no
-
 -- a bit as a number is what its place leaves
 pub bitNumber-bitAt : (i n : ℕ) → bitNumber (bitAt i n) ≡ n / 2 ^ i % 2
-bitNumber-bitAt i n = bitNumber-test (n / 2 ^ i % 2) (mod-lt (n / 2 ^ i) (omega arith))
+bitNumber-bitAt i n = bitNumber-again (n / 2 ^ i % 2) (omega (arith, mod-lt (n / 2 ^ i) {m = 2} (omega arith)))

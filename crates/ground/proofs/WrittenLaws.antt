@@ -1,14 +1,27 @@
--- Laws of bytes written over a buffer. Assumes nothing.
+-- Laws of bytes of a list, and of bytes written over a buffer. Assumes nothing.
 use mathlib.Core.Path.{_≡_, ap, sym, _∙_}
 use mathlib.Core.List.{List, [], _∷_, _++_, append-assoc, append-nil}
-use Prim.Native.Nat.{ℕ, suc, _+_, _≤_, _<_}
+use Prim.Native.Nat.{ℕ, zero, suc, _+_, _≤_, _<_}
 use native.Mathlib.Omega.{arith}
-use native.Mathlib.Nat.{add-zero, zero-add}
+use native.Mathlib.Nat.{add-zero, zero-add, add-suc, suc-add}
 use native.Mathlib.Numerals.{add-one}
 use lib.ListN.{length, take, drop, getD, set, replicate, length-append, take-append-drop, drop-of-length-le}
-use lib.Seq.{paste, paste-suc, take-all, length-paste, take-paste, drop-paste, take-length, set-split, append-snoc, drop-drop}
+use lib.Seq.{paste, paste-suc, take-all, length-paste, take-paste, drop-paste, take-length, set-split, append-snoc, drop-drop, drop-cons}
 use Rattle.ground.specs.Sizes.{addresses}
-use Rattle.ground.specs.Written.{over, Wrote, memoryFrom}
+use Rattle.ground.specs.Written.{byte, over, Wrote, memoryFrom}
+
+-- the n bytes from a place on
+abbrev pub gather : ℕ → ℕ → List ℕ → List ℕ
+gather zero at l = []
+gather (suc n) at l = byte l at ∷ gather n (suc at) l
+
+pub gathered : (n at : ℕ) (l : List ℕ) → at + n ≤ length l → drop at l ≡ gather n at l ++ drop (at + n) l
+gathered zero at l h = ap (λ (k : ℕ). drop k l) (sym (add-zero at))
+gathered (suc n) at l h =
+    let e : suc at + n ≡ at + suc n = suc-add at n ∙ sym (add-suc at n) in
+    drop-cons l at 0 (omega (arith, e))
+    ∙ ap (λ (t : List ℕ). byte l at ∷ t) (gathered n (suc at) l (omega (arith, e)))
+    ∙ ap (λ (k : ℕ). byte l at ∷ (gather n (suc at) l ++ drop k l)) e
 
 pub over-paste : (buffer bytes : List ℕ) (at : ℕ) → paste buffer at bytes (length bytes) ≡ over buffer at bytes
 over-paste buffer bytes at = ap (λ (t : List ℕ). take at buffer ++ t ++ drop (at + length bytes) buffer) (take-length bytes)
@@ -80,3 +93,11 @@ paste-whole buffer bytes i full all =
 -- a value for each address is a memory as it stands
 pub memoryFrom-all : (values : List ℕ) → length values ≡ addresses → memoryFrom values ≡ values
 memoryFrom-all values e = rw e (paste-whole (replicate addresses 0) values addresses (omega arith) (omega arith))
+
+-- bytes put over a buffer one by one: the length, and the whole of it
+module _ (buffer block now : List ℕ) (at i : ℕ) (e : now ≡ paste buffer at block i) where
+  pub put-length : at + i ≤ length buffer → i ≤ length block → length now ≡ length buffer
+  put-length room more = ap length e ∙ length-paste buffer at block i room more
+
+  pub put-whole : i ≡ length block → now ≡ over buffer at block
+  put-whole whole = e ∙ ap (paste buffer at block) whole ∙ over-paste buffer block at

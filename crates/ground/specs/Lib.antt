@@ -1,7 +1,9 @@
 pub mod Bits
+pub mod Codes
 pub mod Determined
 pub mod Outcomes
 pub mod Places
+pub mod Ranges
 pub mod Refusals
 pub mod Sizes
 pub mod Values

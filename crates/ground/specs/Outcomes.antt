@@ -4,8 +4,11 @@ use mathlib.Core.Path.{_≡_}
 use mathlib.Core.Bool.{Bool, true, false, cond}
 use mathlib.Core.List.{List, [], _∷_, _++_}
 use Prim.Native.Nat.{ℕ}
+use lib.Dec.{ltb}
 use lib.ListN.{length}
+use Rattle.ground.specs.Sizes.{recordLength}
 use Rattle.ground.specs.declared.Refusal.{Refusal}
+use Rattle.ground.specs.declared.Refusal.the-variants.{OutputShort}
 use Rattle.ground.specs.declared.Outcome.{Outcome}
 use Rattle.ground.specs.declared.Outcome.the-variants.{Written, Refused}
 use Rattle.ground.specs.Refusals.{refusalNumber, refusalPlace}
@@ -59,6 +62,11 @@ module _ {A : Type 0} (refused : Refusal → A) where
 -- A call past its ladder has written all of its bytes.
 abbrev pub answered : List Rung → List ℕ → Outcome
 answered rungs bytes = ladder Refused rungs (Written (length bytes))
+
+-- A call that writes a state record, or a part of one over a record: 25 where the buffer is shorter than a record; else the
+-- count of the bytes written.
+unfoldable pub writtenAs : ℕ → List ℕ → Outcome
+writtenAs count buffer = ladder Refused (refusedIf (ltb (length buffer) recordLength) OutputShort ∷ []) (Written count)
 
 -- ---- a ladder as the paper's table
 

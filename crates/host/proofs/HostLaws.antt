@@ -13,7 +13,7 @@ use Rattle.ground.specs.declared.Refusal.{Refusal}
 use Rattle.ground.specs.declared.Refusal.the-variants.{OutputShort, NibbleAbove, MemoryCount}
 use Rattle.ground.specs.declared.Outcome.{Outcome}
 use Rattle.ground.specs.declared.Outcome.the-variants.{Written, Refused}
-use Rattle.ground.specs.Outcomes.{left, ComesTo}
+use Rattle.ground.specs.Outcomes.{left, ComesTo, writtenAs}
 use Rattle.ground.specs.Places.{lowest, somewhere}
 use Rattle.power.specs.declared.PoweredOn.{PoweredOn}
 use Rattle.power.specs.declared.Start.{Start}
@@ -23,7 +23,7 @@ use Rattle.chip.specs.Valid.{Valid}
 use Rattle.port.proofs.ValidLaws.{nibbles-from}
 use Rattle.power.proofs.PowerOnLaws.{freshChip-valid}
 use Rattle.state.specs.Record.{recordValid}
-use Rattle.state.specs.Answers.{writtenAs, writtenOver}
+use Rattle.state.specs.Answers.{writtenOver}
 use Rattle.state.proofs.TripLaws.{valid-has}
 use Rattle.state.proofs.ChipLaws.{chip-valid}
 use Rattle.host.specs.Host.{refusedCode, hostCode, powerOnRecord, recordRefusals, powerOnAnswer, powerOnReturns, powerOnBytes}

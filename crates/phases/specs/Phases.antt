@@ -1,5 +1,5 @@
--- 01 "What a sample is answered" and "Inside a frame": which bits count as unfinished, and which address a frame has reached.
--- Assumes nothing.
+-- 01 "What a sample is answered" and "Inside a frame": which bits count as unfinished, and which address a frame has reached;
+-- the numbers of phases and of DATA. Assumes nothing.
 use Prim.Native.Nat.{ℕ, _+_}
 use Rattle.ground.specs.Bits.{bitNumber}
 use Rattle.ground.specs.Sizes.{addresses}
@@ -34,6 +34,38 @@ unfinished (Reading at position) = 0
 unfinished (Writing count value at position) = count
 unfinished (Command count value) = count
 unfinished Dead = 0
+
+-- Their value; the position of the next bit to be offered; 0 where there is none.
+abbrev pub valueOf : Phase → ℕ
+valueOf Idle = 0
+valueOf (Ident count value) = value
+valueOf (ReadTo count value) = value
+valueOf (WriteTo count value) = value
+valueOf (Reading at position) = 0
+valueOf (Writing count value at position) = value
+valueOf (Command count value) = value
+valueOf Dead = 0
+
+abbrev pub positionOf : Phase → ℕ
+positionOf Idle = 0
+positionOf (Ident count value) = 0
+positionOf (ReadTo count value) = 0
+positionOf (WriteTo count value) = 0
+positionOf (Reading at position) = position
+positionOf (Writing count value at position) = position
+positionOf (Command count value) = 0
+positionOf Dead = 0
+
+-- 01 "State record and simulator", byte 33: which phase it is.
+abbrev pub phaseNumber : Phase → ℕ
+phaseNumber Idle = 0
+phaseNumber (Ident count value) = 1
+phaseNumber (ReadTo count value) = 2
+phaseNumber (WriteTo count value) = 3
+phaseNumber (Reading at position) = 4
+phaseNumber (Writing count value at position) = 5
+phaseNumber (Command count value) = 6
+phaseNumber Dead = 7
 
 -- 01 "State record and simulator", byte 39: DATA released, low or high.
 abbrev pub lineNumber : Line → ℕ

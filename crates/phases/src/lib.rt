@@ -1,9 +1,21 @@
-// Where a frame stands, and what the chip does to DATA. Assumes nothing.
+// Where a frame stands, what the chip does to DATA, and both with the lines as bytes of a state record, 32 to 39. Assumes
+// nothing.
 ghost use mathlib.Core.Path.{_≡_};
-ghost use Rattle.phases.specs.Phases.{unfinished, address, lineNumber};
+ghost use Prim.Native.Nat.{_+_, _*_};
+ghost use Rattle.ground.specs.Outcomes.{writtenAs};
+ghost use Rattle.phases.specs.Phases.{unfinished, address, valueOf, positionOf, phaseNumber, lineNumber};
+ghost use Rattle.phases.specs.Frame.{phaseRead, lineRead, inRange, goesWithCs, bitsRight, restRight, frameRight, frameRead, frameOver};
+use ground::Outcome;
+use ground::Refusal;
+use lines::Levels;
 
 // How many addresses a frame counts through before it comes round to the first.
 pub const ROUND: u16 = ground::ADDRESSES as u16;
+
+// Where a record has the frame's bytes, and DATA, the last of them.
+pub const FRAME_AT: usize = 32;
+
+pub const DATA_AT: usize = 39;
 
 // Where a frame stands. What comes in bit by bit has a count of the bits so far and their value, the first bit highest.
 pub enum Phase {
@@ -67,4 +79,231 @@ impl Phase {
             Phase::Dead => 0,
         }
     }
+    // Its number in the state record.
+    fn number(self) -> u8
+        ensures { λ r. ⌜ r ≡ phaseNumber self ⌝ }
+    {
+        match self {
+            Phase::Idle => 0,
+            Phase::Ident(_, _) => 1,
+            Phase::ReadTo(_, _) => 2,
+            Phase::WriteTo(_, _) => 3,
+            Phase::Reading(_, _) => 4,
+            Phase::Writing(_, _, _, _) => 5,
+            Phase::Command(_, _) => 6,
+            Phase::Dead => 7,
+        }
+    }
+
+    // The value of the unfinished bits, or 0.
+    fn value(self) -> u16
+        ensures { λ r. ⌜ r ≡ valueOf self ⌝ }
+    {
+        match self {
+            Phase::Idle => 0,
+            Phase::Ident(_, value) => value,
+            Phase::ReadTo(_, value) => value,
+            Phase::WriteTo(_, value) => value,
+            Phase::Reading(_, _) => 0,
+            Phase::Writing(_, value, _, _) => value,
+            Phase::Command(_, value) => value,
+            Phase::Dead => 0,
+        }
+    }
+
+    // The position of the next bit to be offered, or 0.
+    fn position(self) -> u8
+        ensures { λ r. ⌜ r ≡ positionOf self ⌝ }
+    {
+        match self {
+            Phase::Idle => 0,
+            Phase::Ident(_, _) => 0,
+            Phase::ReadTo(_, _) => 0,
+            Phase::WriteTo(_, _) => 0,
+            Phase::Reading(_, position) => position,
+            Phase::Writing(_, _, _, position) => position,
+            Phase::Command(_, _) => 0,
+            Phase::Dead => 0,
+        }
+    }
+}
+
+// What a coded byte reads to.
+pub enum PhaseRead {
+    Phased(Phase),
+    NoPhase,
+}
+
+pub enum LineRead {
+    Data(Line),
+    NoLine,
+}
+
+// What the frame's bytes read to.
+pub enum FrameRead {
+    Framed(Levels, Phase, Line),
+    NoFrame,
+}
+
+// Byte 33, with the bytes that a phase carries.
+fn phase_of(code: u8, count: u8, value: u16, at: u8, position: u8) -> PhaseRead
+    ensures { λ r. ⌜ r ≡ phaseRead code count value at position ⌝ }
+{
+    match code {
+        0 => PhaseRead::Phased(Phase::Idle),
+        1 => PhaseRead::Phased(Phase::Ident(count, value)),
+        2 => PhaseRead::Phased(Phase::ReadTo(count, value)),
+        3 => PhaseRead::Phased(Phase::WriteTo(count, value)),
+        4 => PhaseRead::Phased(Phase::Reading(at, position)),
+        5 => PhaseRead::Phased(Phase::Writing(count, value, at, position)),
+        6 => PhaseRead::Phased(Phase::Command(count, value)),
+        7 => PhaseRead::Phased(Phase::Dead),
+        _ => PhaseRead::NoPhase,
+    }
+}
+
+// Byte 39.
+fn line_of(code: u8) -> LineRead
+    ensures { λ r. ⌜ r ≡ lineRead code ⌝ }
+{
+    match code {
+        0 => LineRead::Data(Line::Released),
+        1 => LineRead::Data(Line::Driven(false)),
+        2 => LineRead::Data(Line::Driven(true)),
+        _ => LineRead::NoLine,
+    }
+}
+
+// Whether the bytes that do not go by the phase are in range.
+fn in_range(lines: u8, at: u8, position: u8, line: u8) -> bool
+    ensures { λ r. ⌜ r ≡ inRange lines at position line ⌝ }
+{
+    if 15 < lines {
+        return false;
+    }
+    if ROUND <= at as u16 {
+        return false;
+    }
+    if 3 < position {
+        return false;
+    }
+    line <= 2
+}
+
+// Whether there is no frame exactly while CS is high.
+fn goes_with_cs(lines: u8, code: u8) -> bool
+    ensures { λ r. ⌜ r ≡ goesWithCs lines code ⌝ }
+{
+    if lines % 2 == 1 {
+        return code == 0;
+    }
+    code != 0
+}
+
+// The most unfinished bits that each phase can have.
+const MOST_BITS: [u8; 8] = [0, 2, 5, 5, 0, 3, 8, 0];
+
+// Whether there is such a phase, it can have so many unfinished bits, and they this value.
+fn bits_right(code: u8, count: u8, value: u16) -> bool
+    ensures { λ r. ⌜ r ≡ bitsRight code count value ⌝ }
+{
+    if 7 < code {
+        return false;
+    }
+    let most = MOST_BITS;
+    let i = code as usize;
+    if most[i] < count {
+        return false;
+    }
+    value >> count == 0
+}
+
+// Whether address, position and DATA are zero, or the phase can have them.
+fn rest_right(code: u8, at: u8, position: u8, line: u8) -> bool
+    ensures { λ r. ⌜ r ≡ restRight code at position line ⌝ }
+{
+    if code == 4 {
+        return true;
+    }
+    if code == 5 {
+        return true;
+    }
+    if at != 0 {
+        return false;
+    }
+    if position != 0 {
+        return false;
+    }
+    line == 0
+}
+
+// Whether the frame's bytes are in range and go together.
+fn frame_right(lines: u8, code: u8, count: u8, value: u16, at: u8, position: u8, line: u8) -> bool
+    ensures { λ r. ⌜ r ≡ frameRight lines code count value at position line ⌝ }
+{
+    if !in_range(lines, at, position, line) {
+        return false;
+    }
+    if !goes_with_cs(lines, code) {
+        return false;
+    }
+    if !bits_right(code, count, value) {
+        return false;
+    }
+    rest_right(code, at, position, line)
+}
+
+// The value of the unfinished bits, low byte first.
+fn value_from(low: u8, high: u8) -> u16
+    ensures { λ r. ⌜ r ≡ low + 256 * high ⌝ }
+{
+    low as u16 + 256 * (high as u16)
+}
+
+// The lines, the phase and DATA that a record's bytes 32 to 39 say, if they are right.
+pub fn frame_in(bytes: &[u8]) -> FrameRead
+    ensures { λ r. ⌜ r ≡ frameRead (now (bytes .entry)) ⌝ }
+{
+    if bytes.len() != ground::RECORD_LENGTH {
+        return FrameRead::NoFrame;
+    }
+    let lines = bytes[FRAME_AT];
+    let code = bytes[33];
+    let count = bytes[34];
+    let value = value_from(bytes[35], bytes[36]);
+    let at = bytes[37];
+    let position = bytes[38];
+    let data = bytes[DATA_AT];
+    if !frame_right(lines, code, count, value, at, position, data) {
+        return FrameRead::NoFrame;
+    }
+    let PhaseRead::Phased(phase) = phase_of(code, count, value, at, position) else {
+        return FrameRead::NoFrame;
+    };
+    let LineRead::Data(line) = line_of(data) else {
+        return FrameRead::NoFrame;
+    };
+    let levels = lines::levels_of(lines);
+    FrameRead::Framed(levels, phase, line)
+}
+
+// Of a record that a buffer holds, the frame's bytes alone. Each is stored by itself: so the next reading loads what was
+// stored, byte by byte.
+pub fn write_frame(levels: Levels, phase: Phase, line: Line, out: &mut [u8]) -> Outcome
+    ensures { λ r. ⌜ (r ≡ writtenAs 8 (now (out .entry)))
+        × (now (out .exit) ≡ frameOver levels phase line (now (out .entry))) ⌝ }
+{
+    if out.len() < ground::RECORD_LENGTH {
+        return Outcome::Refused(Refusal::OutputShort);
+    }
+    let value = phase.value();
+    out[FRAME_AT] = levels.number();
+    out[33] = phase.number();
+    out[34] = phase.unfinished();
+    out[35] = (value % 256) as u8;
+    out[36] = (value / 256) as u8;
+    out[37] = phase.address();
+    out[38] = phase.position();
+    out[DATA_AT] = line.number();
+    Outcome::Written(8)
 }

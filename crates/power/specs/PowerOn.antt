@@ -10,7 +10,7 @@ use Rattle.ground.specs.declared.Refusal.the-variants.{NibbleAbove, MemoryCount
 use Rattle.ground.specs.Outcomes.{Rung, refusedIf, ladder}
 use Rattle.ground.specs.Places.{lowest, somewhere}
 use Rattle.ground.specs.Refusals.{refusalNumber, refusalPlace}
-use Rattle.rules.specs.Effects.{powerOn}
+use Rattle.settings.specs.Settings.{powerOn}
 use Rattle.phases.specs.declared.Phase.the-variants.{Idle}
 use Rattle.phases.specs.declared.Line.the-variants.{Released}
 use Rattle.lines.specs.Samples.{levels}

@@ -9,7 +9,8 @@ use Rattle.commands.specs.declared.Command.{Command}
 use Rattle.commands.specs.declared.Command.the-variants.{SysDis, SysEn, LcdOff, LcdOn, TimerDis, WdtDis, TimerEn, WdtEn, ToneOff, ToneOn, ClrTimer, ClrWdt, Xtal32k, Rc256k, Ext256k, BiasCom, Tone4k, Tone2k, IrqDis, IrqEn, Rate, Test, Normal}
 use Rattle.commands.specs.Commands.{Proper}
 use Rattle.settings.specs.declared.Settings.{Settings}
-use Rattle.rules.specs.Effects.{systemOff, effect, powerOn}
+use Rattle.rules.specs.Effects.{systemOff, effect}
+use Rattle.settings.specs.Settings.{powerOn}
 use Rattle.settings.specs.Valid.{SettingsValid}
 
 pub powerOn-valid : SettingsValid powerOn

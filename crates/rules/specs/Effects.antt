@@ -1,9 +1,7 @@
--- 01 "Commands", its effects and its power-on. Assumes nothing.
+-- 01 "Commands", its effects. Assumes nothing.
 use mathlib.Core.Bool.{true, false}
 use Rattle.clock.specs.declared.Source.{Source}
 use Rattle.clock.specs.declared.Source.the-variants.{Xtal, Rc, Ext}
-use Rattle.commands.specs.declared.Bias.the-variants.{Half}
-use Rattle.commands.specs.declared.Commons.the-variants.{Two}
 use Rattle.commands.specs.declared.Command.{Command}
 use Rattle.commands.specs.declared.Command.the-variants.{SysDis, SysEn, LcdOff, LcdOn, TimerDis, WdtDis, TimerEn, WdtEn, ToneOff, ToneOn, ClrTimer, ClrWdt, Xtal32k, Rc256k, Ext256k, BiasCom, Tone4k, Tone2k, IrqDis, IrqEn, Rate, Test, Normal}
 use Rattle.settings.specs.declared.Pitch.the-variants.{FourK, TwoK}
@@ -62,21 +60,3 @@ effect IrqEn s = irqTo true s
 effect (Rate r) s = rateTo r s
 effect Test s = testTo true s
 effect Normal s = testTo false s
-
--- Power-on: all switches off, RC, F128, no IRQ source, all counters 0; the house adds bias 1/2, 2 commons and 4 kHz.
-abbrev pub powerOn : Settings
-powerOn =
-    record {
-      system = record { on = false; source = Rc };
-      lcd = record { on = false; bias = Half; commons = Two };
-      tone = record { on = false; pitch = FourK };
-      irq = record { on = false; source = Neither };
-      base = record { on = false; rate = 7 };
-      counters =
-          record {
-            prescaler = record { count = 0 };
-            toner = record { count = 0 };
-            timer = record { divider = record { count = 0 }; base = record { count = 0 }; watchdog = record { count = 0; flag = false } };
-          };
-      test = false;
-    }

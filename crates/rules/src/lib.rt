@@ -1,6 +1,7 @@
 // What a command does to the settings, and the settings at power-on. All goes by value. Assumes nothing.
 ghost use mathlib.Core.Path.{_≡_};
-ghost use Rattle.rules.specs.Effects.{withoutTimeBase, withoutFlag, systemOff, timerOff, watchdogOff, effect, powerOn};
+ghost use Rattle.rules.specs.Effects.{withoutTimeBase, withoutFlag, systemOff, timerOff, watchdogOff, effect};
+ghost use Rattle.settings.specs.Settings.{powerOn};
 ghost use Rattle.settings.specs.Settings.{systemTo, sourceTo, lcdTo, displayTo, toneTo, pitchTo, irqTo, irqSourceTo, timeBaseTo, rateTo, timerTo, testTo};
 use clock::BaseCounter;
 use clock::Counters;

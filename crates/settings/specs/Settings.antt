@@ -1,16 +1,22 @@
--- The settings with one of them changed and all others kept. Assumes nothing.
+-- The settings at power-on, and the settings with one of them changed and all others kept. Assumes nothing.
 use Prim.Native.Nat.{ℕ}
-use mathlib.Core.Bool.{Bool}
+use mathlib.Core.Bool.{Bool, false}
 use Rattle.clock.specs.declared.Source.{Source}
+use Rattle.clock.specs.declared.Source.the-variants.{Rc}
+use Rattle.clock.specs.declared.Watchdog.{Watchdog}
 use Rattle.clock.specs.declared.Timer.{Timer}
 use Rattle.clock.specs.declared.Counters.{Counters}
 use Rattle.commands.specs.declared.Bias.{Bias}
+use Rattle.commands.specs.declared.Bias.the-variants.{Half}
 use Rattle.commands.specs.declared.Commons.{Commons}
+use Rattle.commands.specs.declared.Commons.the-variants.{Two}
 use Rattle.settings.specs.declared.System.{System}
 use Rattle.settings.specs.declared.Lcd.{Lcd}
 use Rattle.settings.specs.declared.Pitch.{Pitch}
+use Rattle.settings.specs.declared.Pitch.the-variants.{FourK}
 use Rattle.settings.specs.declared.Tone.{Tone}
 use Rattle.settings.specs.declared.IrqSource.{IrqSource}
+use Rattle.settings.specs.declared.IrqSource.the-variants.{Neither}
 use Rattle.settings.specs.declared.Irq.{Irq}
 use Rattle.settings.specs.declared.Base.{Base}
 use Rattle.settings.specs.declared.Settings.{Settings}
@@ -72,6 +78,49 @@ countersTo x s = record { system = s .system; lcd = s .lcd; tone = s .tone; irq 
 abbrev pub timerTo : Timer → Settings → Settings
 timerTo timer s = countersTo (record { prescaler = s .counters .prescaler; toner = s .counters .toner; timer = timer }) s
 
+-- The counters, one at a time.
+abbrev pub prescalerTo : ℕ → Counters → Counters
+prescalerTo n c = record { prescaler = record { count = n }; toner = c .toner; timer = c .timer }
+
+abbrev pub tonerTo : ℕ → Counters → Counters
+tonerTo n c = record { prescaler = c .prescaler; toner = record { count = n }; timer = c .timer }
+
+abbrev withTimer : Timer → Counters → Counters
+withTimer x c = record { prescaler = c .prescaler; toner = c .toner; timer = x }
+
+abbrev pub dividerTo : ℕ → Counters → Counters
+dividerTo n c = withTimer (record { divider = record { count = n }; base = c .timer .base; watchdog = c .timer .watchdog }) c
+
+abbrev pub baseTo : ℕ → Counters → Counters
+baseTo n c = withTimer (record { divider = c .timer .divider; base = record { count = n }; watchdog = c .timer .watchdog }) c
+
+abbrev withWatchdog : Watchdog → Counters → Counters
+withWatchdog x c = withTimer (record { divider = c .timer .divider; base = c .timer .base; watchdog = x }) c
+
+abbrev pub watchdogTo : ℕ → Counters → Counters
+watchdogTo n c = withWatchdog (record { count = n; flag = c .timer .watchdog .flag }) c
+
+abbrev pub flagTo : Bool → Counters → Counters
+flagTo flag c = withWatchdog (record { count = c .timer .watchdog .count; flag = flag }) c
+
 -- The test mark.
 abbrev pub testTo : Bool → Settings → Settings
 testTo x s = record { system = s .system; lcd = s .lcd; tone = s .tone; irq = s .irq; base = s .base; counters = s .counters; test = x }
+
+-- 01 "Commands", power-on: all switches off, RC, F128, no IRQ source, all counters 0; the house adds bias 1/2, 2 commons and 4 kHz.
+abbrev pub powerOn : Settings
+powerOn =
+    record {
+      system = record { on = false; source = Rc };
+      lcd = record { on = false; bias = Half; commons = Two };
+      tone = record { on = false; pitch = FourK };
+      irq = record { on = false; source = Neither };
+      base = record { on = false; rate = 7 };
+      counters =
+          record {
+            prescaler = record { count = 0 };
+            toner = record { count = 0 };
+            timer = record { divider = record { count = 0 }; base = record { count = 0 }; watchdog = record { count = 0; flag = false } };
+          };
+      test = false;
+    }

@@ -1,8 +1,31 @@
-// The settings: the switches and selections that commands set, with the counters. Assumes nothing.
+// The settings: the switches and selections that commands set, with the counters; and all of them as bytes of a state record,
+// 40 to 63. Assumes nothing.
+ghost use mathlib.Core.Path.{_≡_};
+ghost use lib.ListN.{length, drop};
+ghost use Rattle.ground.specs.Sizes.{recordLength};
+ghost use Rattle.ground.specs.Ranges.{upTo};
+ghost use Rattle.ground.specs.Outcomes.{writtenAs};
+ghost use Rattle.settings.specs.Numbers.{pitchNumber, irqSourceNumber};
+ghost use Rattle.settings.specs.Selections.{sourceRead, biasRead, commonsRead, pitchRead, irqSourceRead};
+ghost use Rattle.settings.specs.Bytes.{settingsAt, settingsMaxima, settingsOf, selectionsRead, settingsRead, settingsOver, countersOver};
+use clock::BaseCounter;
 use clock::Counters;
+use clock::Divider;
+use clock::Prescaler;
 use clock::Source;
+use clock::Timer;
+use clock::Toner;
+use clock::Watchdog;
 use commands::Bias;
 use commands::Commons;
+use ground::Outcome;
+use ground::RECORD_LENGTH;
+use ground::Refusal;
+
+// Where a record has the settings' bytes, and the counters among them.
+pub const SETTINGS_AT: usize = 40;
+
+pub const COUNTERS_AT: usize = 51;
 
 // The system oscillator.
 pub struct System {
@@ -55,4 +78,309 @@ pub struct Settings {
     pub base: Base,
     pub counters: Counters,
     pub test: bool,
+}
+
+impl Pitch {
+    // Its number in the state record: its kHz.
+    fn number(self) -> u8
+        ensures { λ r. ⌜ r ≡ pitchNumber self ⌝ }
+    {
+        match self {
+            Pitch::FourK => 4,
+            Pitch::TwoK => 2,
+        }
+    }
+}
+
+impl IrqSource {
+    // Its number in the state record.
+    fn number(self) -> u8
+        ensures { λ r. ⌜ r ≡ irqSourceNumber self ⌝ }
+    {
+        match self {
+            IrqSource::Neither => 0,
+            IrqSource::TimeBase => 1,
+            IrqSource::Flag => 2,
+        }
+    }
+}
+
+// How many bytes the settings have in a record.
+const LENGTH: usize = RECORD_LENGTH - SETTINGS_AT;
+
+// What the coded byte of each selection reads to.
+pub enum SourceRead {
+    From(Source),
+    NoSource,
+}
+
+pub enum BiasRead {
+    Biased(Bias),
+    NoBias,
+}
+
+pub enum CommonsRead {
+    Has(Commons),
+    NoCommons,
+}
+
+pub enum PitchRead {
+    Sounds(Pitch),
+    NoPitch,
+}
+
+pub enum IrqSourceRead {
+    Of(IrqSource),
+    NoIrqSource,
+}
+
+// What they read to together.
+pub enum SelectionsRead {
+    Selected(Source, Bias, Commons, Pitch, IrqSource),
+    NoSelections,
+}
+
+// What the settings' bytes read to.
+pub enum SettingsRead {
+    Set(Settings),
+    NoSettings,
+}
+
+// Byte 41.
+fn source_of(code: u8) -> SourceRead
+    ensures { λ r. ⌜ r ≡ sourceRead code ⌝ }
+{
+    match code {
+        0 => SourceRead::From(Source::Xtal),
+        1 => SourceRead::From(Source::Rc),
+        2 => SourceRead::From(Source::Ext),
+        _ => SourceRead::NoSource,
+    }
+}
+
+// Byte 43.
+fn bias_of(code: u8) -> BiasRead
+    ensures { λ r. ⌜ r ≡ biasRead code ⌝ }
+{
+    match code {
+        2 => BiasRead::Biased(Bias::Half),
+        3 => BiasRead::Biased(Bias::Third),
+        _ => BiasRead::NoBias,
+    }
+}
+
+// Byte 44.
+fn commons_of(code: u8) -> CommonsRead
+    ensures { λ r. ⌜ r ≡ commonsRead code ⌝ }
+{
+    match code {
+        2 => CommonsRead::Has(Commons::Two),
+        3 => CommonsRead::Has(Commons::Three),
+        4 => CommonsRead::Has(Commons::Four),
+        _ => CommonsRead::NoCommons,
+    }
+}
+
+// Byte 46.
+fn pitch_of(code: u8) -> PitchRead
+    ensures { λ r. ⌜ r ≡ pitchRead code ⌝ }
+{
+    match code {
+        4 => PitchRead::Sounds(Pitch::FourK),
+        2 => PitchRead::Sounds(Pitch::TwoK),
+        _ => PitchRead::NoPitch,
+    }
+}
+
+// Byte 50.
+fn irq_source_of(code: u8) -> IrqSourceRead
+    ensures { λ r. ⌜ r ≡ irqSourceRead code ⌝ }
+{
+    match code {
+        0 => IrqSourceRead::Of(IrqSource::Neither),
+        1 => IrqSourceRead::Of(IrqSource::TimeBase),
+        2 => IrqSourceRead::Of(IrqSource::Flag),
+        _ => IrqSourceRead::NoIrqSource,
+    }
+}
+
+// The most that each of the settings' bytes can be.
+const MAXIMA: [u8; LENGTH] = [
+    1, // 40 system
+    2, // 41 source
+    1, // 42 LCD
+    3, // 43 bias
+    4, // 44 commons
+    1, // 45 tone
+    4, // 46 its frequency
+    1, // 47 IRQ output
+    7, // 48 rate
+    1, // 49 time base
+    2, // 50 IRQ source
+    1, // 51 flag
+    (clock::PRESCALER_SIZE - 1) as u8, // 52 p
+    (clock::TONER_SIZE - 1) as u8, // 53 q
+    (clock::DIVIDER_SIZE - 1) as u8, // 54 d
+    (clock::BASE_SIZE - 1) as u8, // 55 b
+    (clock::WATCHDOG_SIZE - 1) as u8, // 56 w
+    1, // 57 test
+    0, // 58 to 63 zero
+    0,
+    0,
+    0,
+    0,
+    0,
+];
+
+// Whether each of the settings' bytes is in range.
+fn in_range(bytes: &[u8]) -> bool
+    requires { ⌜ length (now bytes) ≡ recordLength ⌝ }
+    ensures { λ r. ⌜ r ≡ upTo (drop settingsAt (now (bytes .entry))) settingsMaxima ⌝ }
+{
+    let most = MAXIMA;
+    let mut i: usize = 0;
+    while i < LENGTH {
+        if most[i] < bytes[SETTINGS_AT + i] {
+            return false;
+        }
+        i += 1;
+    }
+    true
+}
+
+// The selections, if each is one of its cases.
+fn selections_in(bytes: &[u8]) -> SelectionsRead
+    requires { ⌜ length (now bytes) ≡ recordLength ⌝ }
+    ensures { λ r. ⌜ r ≡ selectionsRead (now (bytes .entry)) ⌝ }
+{
+    let SourceRead::From(source) = source_of(bytes[41]) else {
+        return SelectionsRead::NoSelections;
+    };
+    let BiasRead::Biased(bias) = bias_of(bytes[43]) else {
+        return SelectionsRead::NoSelections;
+    };
+    let CommonsRead::Has(commons) = commons_of(bytes[44]) else {
+        return SelectionsRead::NoSelections;
+    };
+    let PitchRead::Sounds(pitch) = pitch_of(bytes[46]) else {
+        return SelectionsRead::NoSelections;
+    };
+    let IrqSourceRead::Of(irq) = irq_source_of(bytes[50]) else {
+        return SelectionsRead::NoSelections;
+    };
+    SelectionsRead::Selected(source, bias, commons, pitch, irq)
+}
+
+// Bytes 51 to 56.
+fn counters_of(bytes: &[u8]) -> Counters
+    requires { ⌜ length (now bytes) ≡ recordLength ⌝ }
+    ensures { λ r. ⌜ r ≡ settingsOf (now (bytes .entry)) .counters ⌝ }
+{
+    Counters {
+        prescaler: Prescaler { count: bytes[52] },
+        toner: Toner { count: bytes[53] },
+        timer: Timer {
+            divider: Divider { count: bytes[54] },
+            base: BaseCounter { count: bytes[55] },
+            watchdog: Watchdog {
+                count: bytes[56],
+                flag: bytes[COUNTERS_AT] == 1,
+            },
+        },
+    }
+}
+
+// The settings that a record's bytes 40 to 63 say, if they are right.
+pub fn part_in(bytes: &[u8]) -> SettingsRead
+    ensures { λ r. ⌜ r ≡ settingsRead (now (bytes .entry)) ⌝ }
+{
+    if bytes.len() != RECORD_LENGTH {
+        return SettingsRead::NoSettings;
+    }
+    if !in_range(bytes) {
+        return SettingsRead::NoSettings;
+    }
+    let SelectionsRead::Selected(source, bias, commons, pitch, irq) = selections_in(bytes) else {
+        return SettingsRead::NoSettings;
+    };
+    SettingsRead::Set(Settings {
+        system: System {
+            on: bytes[SETTINGS_AT] == 1,
+            source,
+        },
+        lcd: Lcd {
+            on: bytes[42] == 1,
+            bias,
+            commons,
+        },
+        tone: Tone {
+            on: bytes[45] == 1,
+            pitch,
+        },
+        irq: Irq {
+            on: bytes[47] == 1,
+            source: irq,
+        },
+        base: Base {
+            on: bytes[49] == 1,
+            rate: bytes[48],
+        },
+        counters: counters_of(bytes),
+        test: bytes[57] == 1,
+    })
+}
+
+// Of a record that a buffer holds, the counters' bytes alone, 51 to 56: for a chip of which nothing else has changed.
+pub fn write_counters(counters: Counters, out: &mut [u8]) -> Outcome
+    ensures { λ r. ⌜ (r ≡ writtenAs 6 (now (out .entry))) × (now (out .exit) ≡ countersOver counters (now (out .entry))) ⌝ }
+{
+    if out.len() < RECORD_LENGTH {
+        return Outcome::Refused(Refusal::OutputShort);
+    }
+    out[COUNTERS_AT] = counters.timer.watchdog.flag as u8;
+    out[52] = counters.prescaler.count;
+    out[53] = counters.toner.count;
+    out[54] = counters.timer.divider.count;
+    out[55] = counters.timer.base.count;
+    out[56] = counters.timer.watchdog.count;
+    Outcome::Written(6)
+}
+
+// Of a record that a buffer holds, the settings' bytes alone, 40 to 63.
+pub fn write_part(settings: Settings, out: &mut [u8]) -> Outcome
+    ensures { λ r. ⌜ (r ≡ writtenAs 24 (now (out .entry))) × (now (out .exit) ≡ settingsOver settings (now (out .entry))) ⌝ }
+{
+    if out.len() < RECORD_LENGTH {
+        return Outcome::Refused(Refusal::OutputShort);
+    }
+    let system = settings.system;
+    let source = system.source;
+    let lcd = settings.lcd;
+    let bias = lcd.bias;
+    let commons = lcd.commons;
+    let tone = settings.tone;
+    let pitch = tone.pitch;
+    let irq = settings.irq;
+    let irq_source = irq.source;
+    let counters = settings.counters;
+    out[SETTINGS_AT] = system.on as u8;
+    out[41] = source.number();
+    out[42] = lcd.on as u8;
+    out[43] = bias.number();
+    out[44] = commons.number();
+    out[45] = tone.on as u8;
+    out[46] = pitch.number();
+    out[47] = irq.on as u8;
+    out[48] = settings.base.rate;
+    out[49] = settings.base.on as u8;
+    out[50] = irq_source.number();
+    write_counters(counters, out);
+    out[57] = settings.test as u8;
+    out[58] = 0;
+    out[59] = 0;
+    out[60] = 0;
+    out[61] = 0;
+    out[62] = 0;
+    out[63] = 0;
+    Outcome::Written(24)
 }

@@ -15,7 +15,7 @@ use Rattle.ticks.specs.Ticks.{isExt, running}
 use Rattle.state.specs.Record.{frameBytes, settingsBytes, settingsOf, recordValid, recordOf, tailOf, chipOf}
 use Rattle.state.proofs.BytesLaws.{port-bytes}
 use Rattle.state.proofs.ChipLaws.{valid-chip}
-use Rattle.state.proofs.CodesLaws.{bit-back}
+use Rattle.state.proofs.CodesLaws.{bitNumber-back}
 use Rattle.state.proofs.TripLaws.{gather, gathered, valid-has, trip}
 use Rattle.sheet.specs.Bytes.{runs}
 
@@ -45,7 +45,7 @@ module _ (b : List ℕ) (valid : recordValid b ≡ true) where
 -- Running, by the bytes and by the settings that they say.
 pub runs-running : (b : List ℕ) (s : Settings) → runs (spelt b s) ≡ running s
 unfolding running
-runs-running b s = ap₂ _||_ (bit-back (s .system .on)) (by (s .system .source))
+runs-running b s = ap₂ _||_ (bitNumber-back (s .system .on)) (by (s .system .source))
   where
     by : (source : Source) → eqb (sourceNumber source) 2 ≡ isExt source
     by Xtal = refl

@@ -11,7 +11,7 @@ use Rattle.ground.proofs.BitsLaws.{bitNumber-small}
 use Rattle.clock.specs.declared.Timer.{Timer}
 use Rattle.pins.specs.Pins.{asserted, wave}
 use Rattle.state.specs.Selections.{pitchRead, isPitch, pitchIn, irqSourceRead, irqSourceIn}
-use Rattle.state.proofs.CodesLaws.{bit-back}
+use Rattle.state.proofs.CodesLaws.{bitNumber-back}
 
 -- ---- what a code reads to, by the code
 
@@ -47,7 +47,7 @@ module _ (d : ℕ → Bool) where
   nibble-small = omega (arith, bitNumber-small (d 0), bitNumber-small (d 1), bitNumber-small (d 2), bitNumber-small (d 3))
 
   is-bit : (c : ℕ) → nibble / 2 ^ c % 2 ≡ bitNumber (d c) → bitAt c nibble ≡ d c
-  is-bit c e = ap (λ (k : ℕ). eqb k 1) e ∙ bit-back (d c)
+  is-bit c e = ap (λ (k : ℕ). eqb k 1) e ∙ bitNumber-back (d c)
 
   pub nibble-bit : (c : ℕ) → c ≤ 3 → bitAt c nibble ≡ d c
   nibble-bit zero h = is-bit 0 (omega (arith, bitNumber-small (d 0)))

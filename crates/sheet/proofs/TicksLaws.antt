@@ -14,7 +14,7 @@ use Rattle.settings.specs.declared.Settings.{Settings}
 use Rattle.clock.specs.Numbers.{sourceNumber}
 use Rattle.settings.specs.Settings.{timerTo, countersTo}
 use Rattle.ticks.specs.Ticks.{running, ticked}
-use Rattle.state.proofs.CodesLaws.{bit-back}
+use Rattle.state.proofs.CodesLaws.{bitNumber-back}
 use Rattle.sheet.specs.Ticks.{wSteps, bSteps, dSteps, baseTick, clockTick, tick}
 use Rattle.sheet.proofs.BytesLaws.{spelt, runs-running}
 
@@ -59,7 +59,7 @@ module _ (bytes : List ℕ) where
 
   base-tick : (s : Settings) → baseTick (spelt bytes s) ≡ spelt bytes (countersTo (baseTicked (s .base .on) (s .base .rate) (s .counters)) s)
   unfolding baseTicked
-  base-tick s = ap (λ (t : Bool). cond t (dSteps (spelt bytes q)) (spelt bytes q)) (bit-back (s .base .on)) ∙ by (s .base .on)
+  base-tick s = ap (λ (t : Bool). cond t (dSteps (spelt bytes q)) (spelt bytes q)) (bitNumber-back (s .base .on)) ∙ by (s .base .on)
     where
       q : Settings
       q = countersTo (record { prescaler = s .counters .prescaler; toner = tonerStepped (s .counters .toner); timer = s .counters .timer }) s

@@ -10,7 +10,9 @@ use borrow.Author.Tests.{lt-ltb, le-ltb}
 use denote.Enum.Declared.{tagOf}
 use types.Run.{OneOf, miss}
 use Rattle.ground.specs.Bits.{bitNumber}
-use Rattle.ground.specs.Written.{over}
+use Rattle.ground.specs.Sizes.{addresses, recordLength}
+use Rattle.ground.specs.Outcomes.{writtenAs}
+use Rattle.ground.specs.Written.{byte, over}
 use Rattle.clock.specs.declared.Counters.{Counters}
 use Rattle.clock.specs.Ticks.{countersTicked}
 use Rattle.settings.specs.declared.Settings.{Settings}
@@ -33,41 +35,43 @@ use Rattle.port.specs.Port.{moved}
 use Rattle.pins.specs.Pins.{pinsShown}
 use Rattle.chip.specs.Valid.{Valid}
 use Rattle.chip.proofs.ValidLaws.{stepped-valid}
-use Rattle.state.specs.declared.Reading.{Reading}
-use Rattle.state.specs.declared.SettingsRead.{SettingsRead}
-use Rattle.state.specs.declared.SettingsRead.the-variants.{Set, NoSettings}
+use Rattle.state.specs.declared.Recalled.{Recalled}
+use Rattle.settings.specs.declared.SettingsRead.{SettingsRead}
+use Rattle.settings.specs.declared.SettingsRead.the-variants.{Set, NoSettings}
 use Rattle.state.specs.declared.Verdict.the-variants as verdict
-use Rattle.state.specs.Record.{byte, recordValid, recordOf, chipOf}
-use Rattle.state.specs.Answers.{malformed, readOf, settingsIn, writtenAs, writtenOver, portOver, countersOver}
+use Rattle.state.specs.Record.{recordValid, recordOf, chipOf}
+use Rattle.state.specs.Answers.{nothingRecalled, recalledFrom, settingsIn, writtenOver, portOver}
+use Rattle.settings.specs.Bytes.{countersOver}
 use Rattle.state.proofs.RecordLaws.{settings-none, settings-found}
-use Rattle.state.proofs.CodesLaws.{line-again}
-use Rattle.state.proofs.TripLaws.{valid-has, within}
+use Rattle.phases.specs.Frame.{dataAt}
+use Rattle.phases.proofs.FrameLaws.{fits-has, line-again}
+use Rattle.state.proofs.TripLaws.{valid-has}
 use Rattle.state.proofs.ChipLaws.{valid-chip, chip-valid}
 use Rattle.state.proofs.PartLaws.{port-part, counters-part}
 use Rattle.simulator.specs.Simulator.{answerCode, pinsCode, stepReturns, stepBytes, advanceReturns, advanceBytes, pinsReturns, pinsBytes}
 
 -- ---- what was read tells whether the record is valid
 
-module _ (b : List ℕ) (reading : Reading) (e : reading ≡ readOf b) where
-  valid : reading .answer ≡ verdict.Valid → recordValid b ≡ true
-  unfolding readOf
-  valid z = by (recordValid b) (sym (ap (λ (r : Reading). r .answer) e) ∙ z)
+module _ (b : List ℕ) (recalled : Recalled) (e : recalled ≡ recalledFrom b) where
+  valid : recalled .answer ≡ verdict.Valid → recordValid b ≡ true
+  unfolding recalledFrom
+  valid z = by (recordValid b) (sym (ap (λ (r : Recalled). r .answer) e) ∙ z)
     where
-      by : (t : Bool) → cond t (record { answer = verdict.Valid; chip = chipOf b }) malformed .answer ≡ verdict.Valid → t ≡ true
+      by : (t : Bool) → cond t (record { answer = verdict.Valid; chip = chipOf b }) nothingRecalled .answer ≡ verdict.Valid → t ≡ true
       by true z = refl
       by false z = cc
 
-  invalid : reading .answer ≡ verdict.Malformed → recordValid b ≡ false
-  unfolding readOf
-  invalid z = by (recordValid b) (sym (ap (λ (r : Reading). r .answer) e) ∙ z)
+  invalid : recalled .answer ≡ verdict.Invalid → recordValid b ≡ false
+  unfolding recalledFrom
+  invalid z = by (recordValid b) (sym (ap (λ (r : Recalled). r .answer) e) ∙ z)
     where
-      by : (t : Bool) → cond t (record { answer = verdict.Valid; chip = chipOf b }) malformed .answer ≡ verdict.Malformed → t ≡ false
+      by : (t : Bool) → cond t (record { answer = verdict.Valid; chip = chipOf b }) nothingRecalled .answer ≡ verdict.Invalid → t ≡ false
       by true z = cc
       by false z = refl
 
-  says : recordValid b ≡ true → reading .chip ≡ chipOf b
-  unfolding readOf
-  says v = ap (λ (r : Reading). r .chip) e ∙ rw v
+  says : recordValid b ≡ true → recalled .chip ≡ chipOf b
+  unfolding recalledFrom
+  says v = ap (λ (r : Recalled). r .chip) e ∙ rw v
 
 module _ (b : List ℕ) (found : SettingsRead) (e : found ≡ settingsIn b) where
   none : found ≡ NoSettings → recordValid b ≡ false
@@ -80,11 +84,11 @@ module _ (b : List ℕ) (found : SettingsRead) (e : found ≡ settingsIn b) wher
 
 -- ---- a valid chip written over a record of its length leaves its record
 
-written-over : (b : List ℕ) (c : Chip) → length b ≡ 64 → Valid c → writtenOver c b ≡ recordOf c
+written-over : (b : List ℕ) (c : Chip) → length b ≡ recordLength → Valid c → writtenOver c b ≡ recordOf c
 unfolding writtenOver writtenAs
 written-over b c long v =
-    let whole : length (recordOf c) ≡ 64 = valid-has (recordOf c) (chip-valid c v) .long in
-    rw (le-ltb (length b) 64 (omega (arith, long)))
+    let whole : length (recordOf c) ≡ recordLength = valid-has (recordOf c) (chip-valid c v) .long in
+    rw (le-ltb (length b) recordLength (omega (arith, long)))
     (ap (λ (l : List ℕ). recordOf c ++ l) (drop-of-length-le b {i = 0 + length (recordOf c)} (omega (arith, long, whole))) ∙ append-nil (recordOf c))
 
 -- ---- only an obeyed command changes the settings, and ticks change only the counters
@@ -134,37 +138,37 @@ counters-alone (suc n) s = tick-alone (ticks.advanced n (ticks.ticked s) .counte
 
 -- ---- step
 
-module _ (b : List ℕ) (reading : Reading) (e : reading ≡ readOf b) (sample : ℕ) where
-  pub step-malformed : reading .answer ≡ verdict.Malformed → (28 ≡ stepReturns b sample) × (b ≡ stepBytes b sample)
+module _ (b : List ℕ) (recalled : Recalled) (e : recalled ≡ recalledFrom b) (sample : ℕ) where
+  pub step-malformed : recalled .answer ≡ verdict.Invalid → (28 ≡ stepReturns b sample) × (b ≡ stepBytes b sample)
   unfolding stepReturns stepBytes
-  step-malformed z = let v = invalid b reading e z in (rw v, rw v)
+  step-malformed z = let v = invalid b recalled e z in (rw v, rw v)
 
-  module _ (z : reading .answer ≡ verdict.Valid) where
+  module _ (z : recalled .answer ≡ verdict.Valid) where
     pub step-above : 15 < sample → (20 ≡ stepReturns b sample) × (b ≡ stepBytes b sample)
     unfolding stepReturns stepBytes
-    step-above h = let v = valid b reading e z in (simp (v, lt-ltb _ _ h), simp (v, lt-ltb _ _ h))
+    step-above h = let v = valid b recalled e z in (simp (v, lt-ltb _ _ h), simp (v, lt-ltb _ _ h))
 
-    module _ (done : Stepped) (code : ℕ) (after : List ℕ) (h : sample ≤ 15) (d : done ≡ stepped (reading .chip) sample)
+    module _ (done : Stepped) (code : ℕ) (after : List ℕ) (h : sample ≤ 15) (d : done ≡ stepped (recalled .chip) sample)
         (coded : code ≡ answerCode (done .answer)) where
       same : done ≡ stepped (chipOf b) sample
-      same = d ∙ ap (λ (c : Chip). stepped c sample) (says b reading e (valid b reading e z))
+      same = d ∙ ap (λ (c : Chip). stepped c sample) (says b recalled e (valid b recalled e z))
 
       next-valid : Valid (stepped (chipOf b) sample .chip)
-      next-valid = stepped-valid (chipOf b) sample (valid-chip b (valid b reading e z))
+      next-valid = stepped-valid (chipOf b) sample (valid-chip b (valid b recalled e z))
 
       returned : code ≡ stepReturns b sample
       unfolding stepReturns
-      returned = coded ∙ ap (λ (s : Stepped). answerCode (s .answer)) same ∙ simp (valid b reading e z, le-ltb _ _ h)
+      returned = coded ∙ ap (λ (s : Stepped). answerCode (s .answer)) same ∙ simp (valid b recalled e z, le-ltb _ _ h)
 
       left : recordOf (stepped (chipOf b) sample .chip) ≡ stepBytes b sample
       unfolding stepBytes
-      left = simp (valid b reading e z, le-ltb _ _ h)
+      left = simp (valid b recalled e z, le-ltb _ _ h)
 
       pub step-obeyed : after ≡ writtenOver (done .chip) b → (code ≡ stepReturns b sample) × (after ≡ stepBytes b sample)
       step-obeyed w = (
         returned,
         w ∙ ap (λ (s : Stepped). writtenOver (s .chip) b) same
-            ∙ written-over b (stepped (chipOf b) sample .chip) (valid-has b (valid b reading e z) .long) next-valid ∙ left,
+            ∙ written-over b (stepped (chipOf b) sample .chip) (valid-has b (valid b recalled e z) .long) next-valid ∙ left,
       )
 
       pub step-kept : Other (done .answer) → after ≡ portOver (done .chip .port) b
@@ -172,7 +176,7 @@ module _ (b : List ℕ) (reading : Reading) (e : reading ≡ readOf b) (sample :
       step-kept other w = (
         returned,
         w ∙ ap (λ (s : Stepped). portOver (s .chip .port) b) same
-            ∙ port-part b (valid b reading e z) (stepped (chipOf b) sample .chip .port) (next-valid .port .size)
+            ∙ port-part b (valid b recalled e z) (stepped (chipOf b) sample .chip .port) (next-valid .port .size)
             ∙ ap recordOf (port-alone (chipOf b) sample h (subst (λ (s : Stepped). Other (s .answer)) same other)) ∙ left,
       )
 
@@ -203,22 +207,22 @@ module _ (b out : List ℕ) (found : SettingsRead) (e : found ≡ settingsIn b) 
   pins-malformed z = let v = none b found e z in (rw v, rw v)
 
   module _ (settings : Settings) (z : found ≡ Set settings) where
-    pub pins-short : length out < 32 → (25 ≡ pinsReturns b out) × (out ≡ pinsBytes b out)
+    pub pins-short : length out < addresses → (25 ≡ pinsReturns b out) × (out ≡ pinsBytes b out)
     unfolding pinsReturns pinsBytes
     pins-short h = let v = there b found e settings z .0 in (simp (v, lt-ltb _ _ h), simp (v, lt-ltb _ _ h))
 
-    pub pins-long : length b ≡ 64
+    pub pins-long : length b ≡ recordLength
     pins-long = valid-has b (there b found e settings z .0) .long
 
     -- byte 39 is the number of what it reads to
-    pub pins-shown : (mask code : ℕ) (after : List ℕ) → 32 ≤ length out → mask ≡ shownNibble settings 15
-        → after ≡ over out 0 (map (λ n. bitAnd n mask) (take 32 b))
-        → code ≡ bitNumber (irqLow settings) + 2 * bitNumber (bzHigh settings) + 4 * bitNumber (partnerHigh settings) + 8 * byte b 39
+    pub pins-shown : (mask code : ℕ) (after : List ℕ) → addresses ≤ length out → mask ≡ shownNibble settings 15
+        → after ≡ over out 0 (map (λ n. bitAnd n mask) (take addresses b))
+        → code ≡ bitNumber (irqLow settings) + 2 * bitNumber (bzHigh settings) + 4 * bitNumber (partnerHigh settings) + 8 * byte b dataAt
         → (code ≡ pinsReturns b out) × (after ≡ pinsBytes b out)
     unfolding pinsReturns pinsBytes pinsCode pinsShown chipOf
     pins-shown mask code after h m w a =
         let v = there b found e settings z in
-        let line = line-again (byte b 39) (within b (valid-has b (v .0)) 39 (omega arith)) in (
+        let line = line-again (byte b dataAt) (fits-has b (valid-has b (v .0) .frame) .data-low) in (
           a ∙ simp (v .0, le-ltb _ _ h, v .1, line),
           w ∙ simp (v .0, le-ltb _ _ h, v .1, m, shown-under-mask),
         )

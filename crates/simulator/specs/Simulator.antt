@@ -5,6 +5,7 @@ use mathlib.Core.Bool.{not}
 use mathlib.Core.List.{List, [], _∷_}
 use lib.Dec.{ltb}
 use lib.ListN.{length}
+use Rattle.ground.specs.Sizes.{addresses}
 use Rattle.ground.specs.Bits.{bitNumber}
 use Rattle.ground.specs.declared.Refusal.the-variants.{SampleAbove, OutputShort, Malformed}
 use Rattle.ground.specs.Outcomes.{Rung, refusedIf, ladder}
@@ -49,7 +50,7 @@ advanceBytes b n = ladder (λ why. b) (malformed b ∷ []) (recordOf (advanced n
 
 -- Pins: 28, then 25; the cells shown over the first 32 bytes of the buffer, and no byte after them.
 abbrev pub pinsRefusals : List ℕ → List ℕ → List Rung
-pinsRefusals b out = malformed b ∷ refusedIf (ltb (length out) 32) OutputShort ∷ []
+pinsRefusals b out = malformed b ∷ refusedIf (ltb (length out) addresses) OutputShort ∷ []
 
 unfoldable pub pinsReturns : List ℕ → List ℕ → ℕ
 pinsReturns b out = ladder refusalNumber (pinsRefusals b out) (pinsCode (pinsShown (chipOf b)))

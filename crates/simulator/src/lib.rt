@@ -5,6 +5,7 @@ ghost use mathlib.Core.List.{map};
 ghost use Prim.Native.Nat.{_+_, _*_, _≤_};
 ghost use lib.Bits.{bitAnd};
 ghost use lib.ListN.{length, take};
+ghost use Rattle.ground.specs.Sizes.{addresses};
 ghost use Rattle.ground.specs.Bits.{bitNumber};
 ghost use Rattle.ground.specs.Refusals.{refusalNumber};
 ghost use Rattle.ground.specs.Written.{over};
@@ -12,9 +13,10 @@ ghost use Rattle.pins.specs.Pins.{irqLow, bzHigh, partnerHigh};
 ghost use Rattle.simulator.specs.Simulator.{answerCode, stepReturns, stepBytes, advanceReturns, advanceBytes};
 ghost use Rattle.simulator.specs.Simulator.{pinsReturns, pinsBytes};
 use answers::Answer;
+use ground::ADDRESSES;
 use ground::Refusal;
 use settings::Settings;
-use state::SettingsRead;
+use settings::SettingsRead;
 use state::Verdict;
 
 // A refusal, as a call returns it.
@@ -45,12 +47,12 @@ fn pins_code(settings: Settings, line: u8) -> u32
 
 // The memory's bytes under a mask over the start of a buffer.
 fn show(bytes: &[u8], mask: u8, out: &mut [u8])
-    requires { ⌜ 32 ≤ length (now bytes) ⌝ }
-    requires { ⌜ 32 ≤ length (now out) ⌝ }
-    ensures { λ _. ⌜ now (out .exit) ≡ over (now (out .entry)) 0 (map (λ n. bitAnd n mask) (take 32 (now (bytes .entry)))) ⌝ }
+    requires { ⌜ addresses ≤ length (now bytes) ⌝ }
+    requires { ⌜ addresses ≤ length (now out) ⌝ }
+    ensures { λ _. ⌜ now (out .exit) ≡ over (now (out .entry)) 0 (map (λ n. bitAnd n mask) (take addresses (now (bytes .entry)))) ⌝ }
 {
     let mut i: usize = 0;
-    while i < 32 {
+    while i < ADDRESSES {
         out[i] = bytes[i] & mask;
         i += 1;
     }
@@ -63,15 +65,15 @@ pub extern "C" fn step(bytes: &mut [u8], sample: u8) -> u32
     ensures { λ r. ⌜ (r ≡ stepReturns (now (bytes .entry)) sample)
         × (now (bytes .exit) ≡ stepBytes (now (bytes .entry)) sample) ⌝ }
 {
-    let reading = state::read(bytes);
-    let verdict = reading.answer;
+    let recalled = state::read(bytes);
+    let verdict = recalled.answer;
     let Verdict::Valid = verdict else {
         return refused(Refusal::Malformed);
     };
     if 15 < sample {
         return refused(Refusal::SampleAbove);
     }
-    let chip = reading.chip;
+    let chip = recalled.chip;
     let done = inplace::via_place(chip, sample);
     let answer = done.answer;
     let code = code_of(answer);
@@ -96,7 +98,7 @@ pub extern "C" fn advance(bytes: &mut [u8], n: u16) -> u32
     };
     let next = ticks::advanced(settings, n);
     let counters = next.counters;
-    state::write_counters(counters, bytes);
+    settings::write_counters(counters, bytes);
     0
 }
 
@@ -109,10 +111,10 @@ pub extern "C" fn pins(bytes: &[u8], out: &mut [u8]) -> u32
     let SettingsRead::Set(settings) = state::settings_in(bytes) else {
         return refused(Refusal::Malformed);
     };
-    if out.len() < 32 {
+    if out.len() < ADDRESSES {
         return refused(Refusal::OutputShort);
     }
     let mask = pins::shown_mask(settings);
     show(bytes, mask, out);
-    pins_code(settings, bytes[39])
+    pins_code(settings, bytes[phases::DATA_AT])
 }

@@ -10,8 +10,6 @@ use Rattle.state.proofs.write.Kinds as write-kinds
 use Rattle.state.proofs.write.Reads as write-reads
 use Rattle.state.proofs.write_port.Kinds as write-port-kinds
 use Rattle.state.proofs.write_port.Reads as write-port-reads
-use Rattle.state.proofs.write_counters.Kinds as write-counters-kinds
-use Rattle.state.proofs.write_counters.Reads as write-counters-reads
 
 pub read-determined : Determined 1 read-kinds.ps read-kinds.r read-reads.Post
 read-determined κs args x y end end' p q = p ∙ sym q
@@ -24,6 +22,3 @@ write-determined κs args x y end end' p q = (p .0 ∙ sym (q .0), p .1 ∙ sym 
 
 pub write-port-determined : DeterminedWith 1 write-port-kinds.ps write-port-kinds.r (λ κs end. end .1 .0 .now) write-port-reads.Post
 write-port-determined κs args x y end end' p q = (p .0 ∙ sym (q .0), p .1 ∙ sym (q .1))
-
-pub write-counters-determined : DeterminedWith 1 write-counters-kinds.ps write-counters-kinds.r (λ κs end. end .1 .0 .now) write-counters-reads.Post
-write-counters-determined κs args x y end end' p q = (p .0 ∙ sym (q .0), p .1 ∙ sym (q .1))

@@ -1,9 +1,7 @@
 pub mod BytesLaws
 pub mod ChipLaws
-pub mod CodesLaws
 pub mod Determined
-pub mod FramesLaws
+pub mod MemoryLaws
 pub mod PartLaws
-pub mod RangesLaws
 pub mod RecordLaws
 pub mod TripLaws

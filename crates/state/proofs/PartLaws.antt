@@ -7,35 +7,38 @@ use native.Mathlib.Omega.{arith}
 use lib.ListN.{length, take, drop, length-append}
 use lib.Seq.{take-append-add, drop-append-add}
 use borrow.Author.Tests.{le-ltb}
+use Rattle.ground.specs.Sizes.{addresses, recordLength}
+use Rattle.ground.specs.Outcomes.{writtenAs}
 use Rattle.ground.specs.Written.{over}
 use Rattle.clock.specs.declared.Counters.{Counters}
 use Rattle.settings.specs.Settings.{countersTo}
+use Rattle.settings.specs.Bytes.{countersAt, counterBytes, countersOver}
 use Rattle.port.specs.declared.Port.{Port}
 use Rattle.chip.specs.declared.Chip.{Chip}
-use Rattle.state.specs.Record.{frameBytes, counterBytes, recordValid, recordOf, tailOf, chipOf}
-use Rattle.state.specs.Answers.{writtenAs, portOver, countersOver}
+use Rattle.state.specs.Record.{portFrame, portBytes, recordValid, recordOf, tailOf, chipOf}
+use Rattle.state.specs.Answers.{portOver}
 use Rattle.state.proofs.TripLaws.{valid-has, trip}
 use Rattle.state.proofs.ChipLaws.{valid-chip}
 
 -- ---- the same of a chip with 32 bytes of memory, written
 
-module _ (m : List ℕ) (c : Chip) (size : length m ≡ 32) where
-  port-over : (port : Port) → length (port .memory) ≡ 32
-      → over (m ++ tailOf c) 0 (port .memory ++ frameBytes port) ≡ recordOf (record { port = port; settings = c .settings })
+module _ (m : List ℕ) (c : Chip) (size : length m ≡ addresses) where
+  port-over : (port : Port) → length (port .memory) ≡ addresses
+      → over (m ++ tailOf c) 0 (portBytes port) ≡ recordOf (record { port = port; settings = c .settings })
   unfolding recordOf tailOf
   port-over port h =
-      let count : 0 + length (port .memory ++ frameBytes port) ≡ length m + 8 =
-      omega (arith, length-append (port .memory) (frameBytes port)) in
-      ap (λ (n : ℕ). port .memory ++ frameBytes port ++ drop n (m ++ tailOf c)) count
-      ∙ ap (λ (l : List ℕ). port .memory ++ frameBytes port ++ l) (drop-append-add m (tailOf c) 8)
-      ∙ append-assoc (port .memory) (frameBytes port) (drop 8 (tailOf c))
+      let count : 0 + length (portBytes port) ≡ length m + 8 =
+      omega (arith, length-append (port .memory) (portFrame port)) in
+      ap (λ (n : ℕ). portBytes port ++ drop n (m ++ tailOf c)) count
+      ∙ ap (λ (l : List ℕ). portBytes port ++ l) (drop-append-add m (tailOf c) 8)
+      ∙ append-assoc (port .memory) (portFrame port) (drop 8 (tailOf c))
 
   counters-over : (counters : Counters)
-      → over (m ++ tailOf c) 51 (counterBytes counters)
+      → over (m ++ tailOf c) countersAt (counterBytes counters)
       ≡ m ++ tailOf (record { port = c .port; settings = countersTo counters (c .settings) })
   unfolding tailOf
   counters-over counters =
-      let before : 51 ≡ length m + 19 = omega (arith, size) in
+      let before : countersAt ≡ length m + 19 = omega (arith, size) in
       let after : 57 ≡ length m + 25 = omega (arith, size) in
       ap (λ (n : ℕ). take n (m ++ tailOf c) ++ counterBytes counters ++ drop 57 (m ++ tailOf c)) before
       ∙ ap (λ (l : List ℕ). l ++ counterBytes counters ++ drop 57 (m ++ tailOf c)) (take-append-add m (tailOf c) 19)
@@ -48,13 +51,13 @@ module _ (m : List ℕ) (c : Chip) (size : length m ≡ 32) where
 
 module _ (b : List ℕ) (v : recordValid b ≡ true) where
   -- A port written over it, of 32 bytes of memory.
-  pub port-part : (port : Port) → length (port .memory) ≡ 32
+  pub port-part : (port : Port) → length (port .memory) ≡ addresses
       → portOver port b ≡ recordOf (record { port = port; settings = chipOf b .settings })
   unfolding portOver writtenAs recordOf
   port-part port h =
       let long = valid-has b v .long in
-      rw (le-ltb (length b) 64 (omega (arith, long)))
-      (ap (λ (l : List ℕ). over l 0 (port .memory ++ frameBytes port)) (sym (trip b v))
+      rw (le-ltb (length b) recordLength (omega (arith, long)))
+      (ap (λ (l : List ℕ). over l 0 (portBytes port)) (sym (trip b v))
       ∙ port-over (chipOf b .port .memory) (chipOf b) (valid-chip b v .port .size) port h)
 
   -- Counters written over it.
@@ -63,6 +66,6 @@ module _ (b : List ℕ) (v : recordValid b ≡ true) where
   unfolding countersOver writtenAs recordOf
   counters-part counters =
       let long = valid-has b v .long in
-      rw (le-ltb (length b) 64 (omega (arith, long)))
-      (ap (λ (l : List ℕ). over l 51 (counterBytes counters)) (sym (trip b v))
+      rw (le-ltb (length b) recordLength (omega (arith, long)))
+      (ap (λ (l : List ℕ). over l countersAt (counterBytes counters)) (sym (trip b v))
       ∙ counters-over (chipOf b .port .memory) (chipOf b) (valid-chip b v .port .size) counters)

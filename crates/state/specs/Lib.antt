@@ -1,4 +1,2 @@
 pub mod Answers
-pub mod FrameCodes
 pub mod Record
-pub mod Selections

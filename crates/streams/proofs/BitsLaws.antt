@@ -5,14 +5,14 @@ use mathlib.Core.List.{List, [], _∷_, _++_}
 use Prim.Native.Nat.{ℕ, _+_, _*_, _/_, _%_, _<_}
 use native.Mathlib.Omega.{arith}
 use Rattle.ground.specs.Bits.{bitNumber}
-use Rattle.ground.proofs.BitsLaws.{bitNumber-test}
+use Rattle.ground.proofs.BitsLaws.{bitNumber-again}
 use Rattle.ground.specs.Values.{agree}
 use Rattle.ground.specs.Written.{Wrote}
 use Rattle.streams.specs.Streams.{sendBit, sendBits, writeId, readId, addressBits, commandBits}
 use Rattle.streams.specs.Weights.{weighed, nineBits}
 
 pub weighed-number : (weight number : ℕ) → bitNumber (weighed weight number) ≡ number / weight % 2
-weighed-number weight number = bitNumber-test (number / weight % 2) (omega arith)
+weighed-number weight number = bitNumber-again (number / weight % 2) (omega arith)
 
 -- the samples of a bit, from the bit's number
 pub wrote-bit : (weight number : ℕ) {before after : List ℕ} {at next : ℕ}

@@ -7,31 +7,31 @@ use borrow.Author.Needs.{needs}
 use lib.Bits.{bitAnd}
 use lib.ListN.{length, getD, set, take, length-map}
 use lib.Seq.{paste, paste-zero, getD-take, length-take-le}
+use Rattle.ground.specs.Sizes.{addresses}
 use Rattle.ground.proofs.BitsLaws.{masked-at}
-use Rattle.ground.proofs.WrittenLaws.{paste-next}
-use Rattle.state.proofs.RecordLaws.{put-length, put-whole}
+use Rattle.ground.proofs.WrittenLaws.{paste-next, put-length, put-whole}
 use Rattle.simulator.proofs.show.Statement.{statement}
 use Rattle.simulator.proofs.show.Tie as tie
 
 -- the cells that show
 abbrev cells : ℕ → List ℕ → List ℕ
-cells mask bytes = map (λ n. bitAnd n mask) (take 32 bytes)
+cells mask bytes = map (λ n. bitAnd n mask) (take addresses bytes)
 
-cells-long : (mask : ℕ) (bytes : List ℕ) → 32 ≤ length bytes → length (cells mask bytes) ≡ 32
-cells-long mask bytes h = length-map (take 32 bytes) (λ n. bitAnd n mask) ∙ length-take-le 32 bytes h
+cells-long : (mask : ℕ) (bytes : List ℕ) → addresses ≤ length bytes → length (cells mask bytes) ≡ addresses
+cells-long mask bytes h = length-map (take addresses bytes) (λ n. bitAnd n mask) ∙ length-take-le addresses bytes h
 
 abbrev Inv-loop : tie.InvT-loop
-Inv-loop bytes mask out₀ i₀ out i = (i ≤ 32) × (out ≡ paste out₀ 0 (cells mask bytes) i)
+Inv-loop bytes mask out₀ i₀ out i = (i ≤ addresses) × (out ≡ paste out₀ 0 (cells mask bytes) i)
 
 abbrev μ-loop : tie.MeasureT-loop
-μ-loop bytes mask out₀ i₀ out i = 32 - i
+μ-loop bytes mask out₀ i₀ out i = addresses - i
 
 -- one cell more
-next : (bytes buffer out : List ℕ) (mask i : ℕ) → out ≡ paste buffer 0 (cells mask bytes) i → 32 ≤ length bytes
-    → 32 ≤ length buffer → i < 32 → set out i (bitAnd (getD bytes i 0) mask) ≡ paste buffer 0 (cells mask bytes) (i + 1)
+next : (bytes buffer out : List ℕ) (mask i : ℕ) → out ≡ paste buffer 0 (cells mask bytes) i → addresses ≤ length bytes
+    → addresses ≤ length buffer → i < addresses → set out i (bitAnd (getD bytes i 0) mask) ≡ paste buffer 0 (cells mask bytes) (i + 1)
 next bytes buffer out mask i e long room more =
-    ap (λ (n : ℕ). set out i (bitAnd n mask)) (sym (getD-take 32 bytes i 0 more))
-    ∙ ap (set out i) (sym (masked-at mask (take 32 bytes) i))
+    ap (λ (n : ℕ). set out i (bitAnd n mask)) (sym (getD-take addresses bytes i 0 more))
+    ∙ ap (set out i) (sym (masked-at mask (take addresses bytes) i))
     ∙ paste-next buffer (cells mask bytes) out i e (omega arith) (omega (arith, cells-long mask bytes long))
 
 loop-holds : tie.Need-loop-holds Inv-loop μ-loop

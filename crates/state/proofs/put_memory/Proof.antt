@@ -5,16 +5,16 @@ use native.Mathlib.Omega.{arith}
 use borrow.Author.Needs.{needs}
 use lib.ListN.{length, length-set}
 use lib.Seq.{paste, paste-zero}
-use Rattle.ground.proofs.WrittenLaws.{paste-next}
-use Rattle.state.proofs.RecordLaws.{put-whole}
+use Rattle.ground.specs.Sizes.{addresses}
+use Rattle.ground.proofs.WrittenLaws.{paste-next, put-whole}
 use Rattle.state.proofs.put_memory.Statement.{statement}
 use Rattle.state.proofs.put_memory.Tie as tie
 
 abbrev Inv-loop : tie.InvT-loop
-Inv-loop out₀ memory i₀ out i = (i ≤ 32) × (length out ≡ length out₀) × (out ≡ paste out₀ 0 memory i)
+Inv-loop out₀ memory i₀ out i = (i ≤ addresses) × (length out ≡ length out₀) × (out ≡ paste out₀ 0 memory i)
 
 abbrev μ-loop : tie.MeasureT-loop
-μ-loop out₀ memory i₀ out i = 32 - i
+μ-loop out₀ memory i₀ out i = addresses - i
 
 loop-holds : tie.Need-loop-holds Inv-loop μ-loop
 loop-holds c = (omega arith, refl, paste-zero (c .args .out .now) 0 (c .args .t1))

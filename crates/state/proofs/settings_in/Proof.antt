@@ -1,32 +1,55 @@
--- `state::settings_in` meets its contract: length, ranges and frame decide in turn, then the settings. Assumes nothing.
+-- `state::settings_in` meets its contract: length and memory decide, then the frame, then the settings. Assumes nothing.
 use mathlib.Core.Path.{_∙_, sym}
 use borrow.Author.Tests.{not-true, not-false}
-use Rattle.state.proofs.RecordLaws.{settings-length, settings-unfit, settings-whole}
+use Rattle.state.proofs.RecordLaws.{settings-begins, settings-frame, settings-whole}
 use borrow.Author.Needs.{needs}
 use Rattle.state.proofs.settings_in.Statement.{statement}
 use Rattle.state.proofs.settings_in.Tie as tie
 
-returns : tie.Need-returns
-returns c = settings-length (c .before .before .args .bytes .now) (c .if1 .taken)
+memory-right-requires : tie.Need-memory-right-requires
+memory-right-requires c κs = search needs
 
-bytes-fit-requires : tie.Need-bytes-fit-requires
-bytes-fit-requires c κs = search needs
+returns : tie.Need-returns
+returns c =
+    let memory = c .before in
+    settings-begins (memory .before .before .args .bytes .now) (sym (memory .memory-right .ensures) ∙ not-true _ (c .if1 .taken))
+
+frame-in-requires : tie.Need-frame-in-requires
+frame-in-requires c κs = search needs
+
+enum-told : tie.Need-enum-told
+enum-told c = search needs
+
+enum-told-2 : tie.Need-enum-told-2
+enum-told-2 c = search needs
 
 returns-2 : tie.Need-returns-2
 returns-2 c =
-    let size = c .before .before in
-    settings-unfit (size .before .before .args .bytes .now) (size .if1 .left) (sym (c .before .bytes-fit .ensures) ∙ not-true _ (c .if2 .taken))
+    let frame = c .before .before in
+    let memory = frame .before .before in
+    settings-frame (memory .before .before .args .bytes .now) (sym (memory .memory-right .ensures) ∙ not-false _ (frame .before .if1 .left))
+    (sym (frame .frame-in .ensures) ∙ c .enum-told2 .given .1)
 
-settings-of-requires : tie.Need-settings-of-requires
-settings-of-requires c κs = search needs
+part-in-requires : tie.Need-part-in-requires
+part-in-requires c κs = search needs
 
 returns-3 : tie.Need-returns-3
 returns-3 c =
-    let fit = c .before in
-    let size = fit .before .before in
-    c .settings-of .ensures
-    ∙ settings-whole (size .before .before .args .bytes .now) (size .if1 .left) (sym (fit .before .bytes-fit .ensures) ∙ not-false _ (fit .if2 .left))
+    let frame = c .before .before .before in
+    let memory = frame .before .before in
+    c .part-in .ensures
+    ∙ settings-whole (memory .before .before .args .bytes .now) (sym (memory .memory-right .ensures) ∙ not-false _ (frame .before .if1 .left)) _ _ _
+    (sym (frame .frame-in .ensures) ∙ c .before .enum-told .given .1)
 
 pub settings-in-spec : {M : Type 1} → statement M
 settings-in-spec =
-    tie.close (tie.spec returns bytes-fit-requires returns-2 settings-of-requires returns-3)
+    tie.close
+    (tie.spec
+    memory-right-requires
+    returns
+    frame-in-requires
+    enum-told
+    enum-told-2
+    returns-2
+    part-in-requires
+    returns-3)

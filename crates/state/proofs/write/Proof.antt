@@ -1,6 +1,7 @@
 -- `state::write` meets its contract: the memory, the frame after it, and the settings after both. Assumes nothing.
 use borrow.Author.Tests.{lt-ltb, le-ltb}
-use Rattle.state.specs.Answers.{writtenAs, writtenOver}
+use Rattle.ground.specs.Outcomes.{writtenAs}
+use Rattle.state.specs.Answers.{writtenOver}
 use Rattle.state.proofs.RecordLaws.{put-record}
 use borrow.Author.Needs.{needs}
 use Rattle.state.proofs.write.Statement.{statement}
@@ -13,11 +14,11 @@ returns c = (simp (lt-ltb _ _ (c .if1 .taken)), simp (lt-ltb _ _ (c .if1 .taken)
 put-memory-requires : tie.Need-put-memory-requires
 put-memory-requires c κs = search needs
 
-put-frame-requires : tie.Need-put-frame-requires
-put-frame-requires c κs = search needs
+write-frame-requires : tie.Need-write-frame-requires
+write-frame-requires c κs = search needs
 
-put-settings-requires : tie.Need-put-settings-requires
-put-settings-requires c κs = search needs
+write-part-requires : tie.Need-write-part-requires
+write-part-requires c κs = search needs
 
 same-length : tie.Need-same-length
 same-length c = search needs
@@ -25,15 +26,16 @@ same-length c = search needs
 returns-2 : tie.Need-returns-2
 unfolding writtenAs writtenOver
 returns-2 c =
-    let third = c .before .before in
-    let second = third .before .before .before .before in
-    let first = second .before .before .before .before in
-    let long = first .before .before .before .before .before in
-    let start = long .before .before in (
+    let settings = c .before .before in
+    let frame = settings .before .before .before .before in
+    let memory = frame .before .before .before .before in
+    let levels = memory .before .before .before in
+    let long = levels .before .before .before in
+    let start = long .before .before .args in (
       simp (le-ltb _ _ (long .if1 .left)),
       rw (le-ltb _ _ (long .if1 .left))
-          (put-record (start .args .chip .port) (start .args .out .now) _ _ (first .put-memory .ensures .0) (long .if1 .left)
-          (first .put-memory .ensures .1) (second .put-frame .ensures) (start .args .chip .settings) _ (third .put-settings .ensures)),
+          (put-record (start .chip .port) (start .out .now) _ _ (memory .put-memory .ensures .0) (long .if1 .left)
+          (memory .put-memory .ensures .1) (frame .write-frame .ensures .1) (start .chip .settings) _ (settings .write-part .ensures .1)),
     )
 
 pub write-spec : {M : Type 1} → statement M
@@ -42,7 +44,7 @@ write-spec =
     (tie.spec
     returns
     put-memory-requires
-    put-frame-requires
-    put-settings-requires
+    write-frame-requires
+    write-part-requires
     same-length
     returns-2)

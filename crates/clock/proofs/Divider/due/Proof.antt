@@ -1,4 +1,4 @@
--- `clock::Divider::due` meets its contract: the period is a shift of 128, and at 7 and above it is 1. Assumes nothing.
+-- `clock::Divider::due` meets its contract: the period is the size of d shifted, and at 7 and above it is 1. Assumes nothing.
 use mathlib.Core.Path.{_≡_}
 use Prim.Native.Nat.{ℕ, _-_}
 use native.Mathlib.Nat.{mod-one}
@@ -18,6 +18,9 @@ returns c =
 shr-period : tie.Need-shr-period
 shr-period c = search needs
 
+cast-result : tie.Need-cast-result
+cast-result c = search needs
+
 rem-result : tie.Need-rem-result
 rem-result c = rw (period-shift (c .before .before .args .rate) (omega arith)) (pow-pos _)
 
@@ -26,4 +29,4 @@ unfolding due
 returns-2 c = rw (period-shift (c .before .before .args .rate) (omega arith))
 
 pub due-spec : {M : Type 1} → statement M
-due-spec = tie.close (tie.spec returns shr-period rem-result returns-2)
+due-spec = tie.close (tie.spec returns shr-period cast-result rem-result returns-2)

@@ -1,0 +1,73 @@
+-- `settings::in_range` meets its contract: the bytes before `i` are in range, and the others decide. Assumes nothing.
+use mathlib.Core.Path.{_≡_, _∙_, sym, refl}
+use Prim.Native.Nat.{_-_, _≤_}
+use native.Mathlib.Omega.{arith}
+use borrow.Author.Needs.{needs}
+use lib.ListN.{drop}
+use Rattle.ground.specs.Ranges.{upTo}
+use Rattle.settings.specs.Bytes.{settingsAt, settingsMaxima}
+use Rattle.settings.proofs.BytesLaws.{range-passes, range-fails, range-ends}
+use Rattle.settings.proofs.in_range.Statement.{statement}
+use Rattle.settings.proofs.in_range.Tie as tie
+
+abbrev Inv-loop : tie.InvT-loop
+Inv-loop bytes most i₀ i =
+    (i ≤ 24) × (upTo (drop i (drop settingsAt bytes)) (drop i settingsMaxima) ≡ upTo (drop settingsAt bytes) settingsMaxima)
+
+abbrev μ-loop : tie.MeasureT-loop
+μ-loop bytes most i₀ i = 24 - i
+
+loop-holds : tie.Need-loop-holds Inv-loop μ-loop
+loop-holds c = (omega arith, refl)
+
+array-read-if1 : tie.Need-array-read-if1 Inv-loop μ-loop
+array-read-if1 c = search needs
+
+add-if1 : tie.Need-add-if1 Inv-loop μ-loop
+add-if1 c = search needs
+
+shared-slice-read-if1 : tie.Need-shared-slice-read-if1 Inv-loop μ-loop
+shared-slice-read-if1 c = search needs
+
+returns : tie.Need-returns Inv-loop μ-loop
+returns c =
+    let turn = c .before .before in
+    let loop = turn .before in
+    sym (range-fails (loop .before .args .bytes .now) (loop .before .pre) (loop .loop .i) (turn .loop-test .taken) (c .if1 .taken))
+    ∙ loop .loop .inv .1
+
+add-i : tie.Need-add-i Inv-loop μ-loop
+add-i c = search needs
+
+loop-less : tie.Need-loop-less Inv-loop μ-loop
+loop-less c = search needs
+
+loop-again : tie.Need-loop-again Inv-loop μ-loop
+loop-again c =
+    let turn = c .before .before in
+    let loop = turn .before in (
+      omega arith,
+      sym (range-passes (loop .before .args .bytes .now) (loop .before .pre) (loop .loop .i) (turn .loop-test .taken) (c .if1 .left))
+          ∙ loop .loop .inv .1,
+    )
+
+returns-2 : tie.Need-returns-2 Inv-loop μ-loop
+returns-2 c =
+    let loop = c .before in
+    sym (range-ends (loop .before .args .bytes .now) (loop .before .pre) (loop .loop .i) (omega arith)) ∙ loop .loop .inv .1
+
+pub in-range-spec : {M : Type 1} → statement M
+in-range-spec =
+    tie.close
+    (tie.spec
+    Inv-loop
+    μ-loop
+    loop-holds
+    array-read-if1
+    add-if1
+    shared-slice-read-if1
+    returns
+    add-i
+    loop-less
+    loop-again
+    returns-2)
