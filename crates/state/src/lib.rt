@@ -38,7 +38,7 @@ fn nothing_recalled() -> Recalled
 {
     Recalled {
         answer: Verdict::Invalid,
-        chip: chip::empty(),
+        chip: power::empty(),
     }
 }
 
