@@ -13,6 +13,7 @@ use Rattle.ground.specs.declared.Refusal.{Refusal}
 use Rattle.ground.specs.declared.Refusal.the-variants.{OutputShort, NibbleAbove, MemoryCount}
 use Rattle.ground.specs.declared.Outcome.{Outcome}
 use Rattle.ground.specs.declared.Outcome.the-variants.{Written, Refused}
+use Rattle.ground.specs.Sizes.{recordLength}
 use Rattle.ground.specs.Outcomes.{left, ComesTo, writtenAs}
 use Rattle.ground.specs.Places.{lowest, somewhere}
 use Rattle.power.specs.declared.PoweredOn.{PoweredOn}
@@ -70,7 +71,7 @@ pub power-on-valid : (memory : List ℕ) → recordValid (powerOnRecord memory) 
 unfolding powerOnRecord
 power-on-valid memory = chip-valid (poweredOn memory .chip) (started memory .valid)
 
-pub power-on-size : (memory : List ℕ) → length (powerOnRecord memory) ≡ 64
+pub power-on-size : (memory : List ℕ) → length (powerOnRecord memory) ≡ recordLength
 power-on-size memory = valid-has (powerOnRecord memory) (power-on-valid memory) .long
 
 -- what the chip answers decides first, and only where it is on the room
@@ -79,7 +80,7 @@ whereOn start.On then = then
 whereOn (start.Refused why) then = Refused why
 
 abbrev recordFitted : ℕ → Outcome
-recordFitted room = cond (ltb room 64) (Refused OutputShort) (Written 64)
+recordFitted room = cond (ltb room recordLength) (Refused OutputShort) (Written recordLength)
 
 power-on-due : (memory : List ℕ) (room : ℕ)
     → powerOnAnswer memory room ≡ whereOn (poweredOn memory .answer) (recordFitted room)
@@ -112,14 +113,14 @@ module _ (memory bytes : List ℕ) (powered : PoweredOn) (e : powered ≡ powere
   unfolding powerOnReturns powerOnBytes hostCode
   power-on-refused why r = let d = due (start.Refused why) r in (rw d refl, rw d refl)
 
-  pub power-on-short : powered .answer ≡ start.On → length bytes < 64
+  pub power-on-short : powered .answer ≡ start.On → length bytes < recordLength
       → (refusedCode OutputShort ≡ powerOnReturns memory bytes) × (bytes ≡ powerOnBytes memory bytes)
   unfolding powerOnReturns powerOnBytes hostCode
   power-on-short r h = let d = due start.On r in (simp (d, lt-ltb _ _ h), simp (d, lt-ltb _ _ h))
 
-  pub power-on-done : (after : List ℕ) → powered .answer ≡ start.On → 64 ≤ length bytes
+  pub power-on-done : (after : List ℕ) → powered .answer ≡ start.On → recordLength ≤ length bytes
       → after ≡ writtenOver (powered .chip) bytes
-      → (64 ≡ powerOnReturns memory bytes) × (after ≡ powerOnBytes memory bytes)
+      → (recordLength ≡ powerOnReturns memory bytes) × (after ≡ powerOnBytes memory bytes)
   unfolding powerOnReturns powerOnBytes powerOnRecord writtenOver writtenAs hostCode
   power-on-done after r h w =
       let d = due start.On r in
@@ -129,7 +130,7 @@ module _ (memory bytes : List ℕ) (powered : PoweredOn) (e : powered ≡ powere
 pub power-on-small : (memory : List ℕ) (room : ℕ) → Small (powerOnAnswer memory room)
 unfolding powerOnAnswer
 power-on-small memory room =
-    ladder-small (recordRefusals memory room) 64 (
+    ladder-small (recordRefusals memory room) recordLength (
       omega arith,
       λ long.
           (omega (arith, of-32 memory long, place-within (ltb 15) memory), λ clean. (omega arith, λ fits. omega arith)),

@@ -5,6 +5,7 @@ use mathlib.Core.Bool.{cond}
 use mathlib.Core.List.{List, [], _∷_, _++_}
 use lib.Dec.{ltb}
 use lib.ListN.{length}
+use Rattle.ground.specs.Sizes.{recordLength}
 use Rattle.ground.specs.declared.Refusal.{Refusal}
 use Rattle.ground.specs.declared.Refusal.the-variants.{OutputShort}
 use Rattle.ground.specs.declared.Outcome.{Outcome}
@@ -30,10 +31,10 @@ unfoldable pub powerOnRecord : List ℕ → List ℕ
 powerOnRecord memory = recordOf (poweredOn memory .chip)
 
 abbrev pub recordRefusals : List ℕ → ℕ → List Rung
-recordRefusals memory room = powerOnRefusals memory ++ refusedIf (ltb room 64) OutputShort ∷ []
+recordRefusals memory room = powerOnRefusals memory ++ refusedIf (ltb room recordLength) OutputShort ∷ []
 
 unfoldable pub powerOnAnswer : List ℕ → ℕ → Outcome
-powerOnAnswer memory room = ladder Refused (recordRefusals memory room) (Written 64)
+powerOnAnswer memory room = ladder Refused (recordRefusals memory room) (Written recordLength)
 
 unfoldable pub powerOnReturns : List ℕ → List ℕ → ℕ
 powerOnReturns memory bytes = hostCode (powerOnAnswer memory (length bytes))

@@ -7,6 +7,7 @@ ghost use Rattle.host.specs.Host.{refusedCode, hostCode, powerOnReturns,
 ghost use Rattle.host.specs.Host.{writeReturns, writeBytes, readReturns, readBytes};
 ghost use Rattle.host.specs.Host.{commandsReturns, commandsBytes, decodeReturns, decodeBytes};
 use ground::Outcome;
+use ground::RECORD_LENGTH;
 use ground::Refusal;
 use power::Start;
 
@@ -44,11 +45,11 @@ pub extern "C" fn ht1621_power_on(memory: &[u8], bytes: &mut [u8]) -> u32
     match answer {
         Start::Refused(refusal) => refused_code(refusal),
         Start::On => {
-            if bytes.len() < 64 {
+            if bytes.len() < RECORD_LENGTH {
                 return refused_code(Refusal::OutputShort);
             }
             state::write(chip, bytes);
-            64
+            RECORD_LENGTH as u32
         }
     }
 }

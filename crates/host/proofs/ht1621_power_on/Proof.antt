@@ -38,6 +38,9 @@ returns c =
 write-requires : tie.Need-write-requires
 write-requires c κs = search needs
 
+cast-result : tie.Need-cast-result
+cast-result c = search needs
+
 returns-2 : tie.Need-returns-2
 returns-2 c =
     let told = c .before .before in
@@ -71,6 +74,7 @@ ht1621-power-on-spec =
     refused-code-requires-2
     returns
     write-requires
+    cast-result
     returns-2
     same-length
     returns-3)
