@@ -17,10 +17,11 @@ use Rattle.chip.specs.declared.Stepped.{Stepped}
 use Rattle.chip.specs.Chip.{stepped, advanced}
 use Rattle.chip.specs.Valid.{Valid}
 use Rattle.chip.proofs.ValidLaws.{stepped-valid, refused-keeps, advanced-valid}
-use Rattle.state.specs.Record.{byte, tailOf, recordOf}
+use Rattle.ground.specs.Written.{byte}
+use Rattle.state.specs.Record.{tailOf, recordOf}
 use Rattle.state.proofs.BytesLaws.{byte-past}
 use Rattle.state.proofs.ChipLaws.{chip-valid, chip-again}
-use Rattle.state.proofs.CodesLaws.{levels-back}
+use Rattle.lines.proofs.SamplesLaws.{levels-back}
 use Rattle.simulator.specs.Simulator.{answerCode, stepReturns, stepBytes, advanceBytes}
 use Rattle.demands.specs.Events.{after, answers, dataNumber, notes}
 use Rattle.demands.specs.Calls.{Call, step, advance, afterCalls, eventsOf, sent, returns, dataNoted, noted}

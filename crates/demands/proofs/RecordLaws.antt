@@ -19,7 +19,8 @@ use Rattle.port.specs.declared.Port.{Port}
 use Rattle.chip.specs.Chip.{advanced}
 use Rattle.chip.specs.Valid.{Valid}
 use Rattle.chip.proofs.ValidLaws.{advanced-valid}
-use Rattle.state.specs.Record.{frameBytes, settingsBytes, settingsOf, recordOf, recordValid, chipOf}
+use Rattle.settings.specs.Bytes.{settingsAt, settingsBytes, settingsOf}
+use Rattle.state.specs.Record.{portBytes, recordOf, recordValid, chipOf}
 use Rattle.state.proofs.ChipLaws.{valid-chip}
 use Rattle.state.proofs.TripLaws.{trip}
 use Rattle.simulator.specs.Simulator.{answerCode, advanceBytes}
@@ -106,22 +107,22 @@ module _ (b : List ℕ) (valid : recordValid b ≡ true) where
     pub memory-left : (m : List ℕ) → after c es .port .memory ≡ m → take addresses (afterCalls b calls) ≡ m
     memory-left m e = ap (take addresses) leaves ∙ memory-bytes (after c es) (after-valid c es v .port .size) ∙ e
 
-    pub settings-left : (s : Settings) → after c es .settings ≡ s → drop 40 (afterCalls b calls) ≡ settingsBytes s ++ replicate 6 0
+    pub settings-left : (s : Settings) → after c es .settings ≡ s → drop settingsAt (afterCalls b calls) ≡ settingsBytes s
     settings-left s e =
-        ap (drop 40) leaves ∙ settings-bytes (after c es) (after-valid c es v .port .size)
-        ∙ ap (λ (x : Settings). settingsBytes x ++ replicate 6 0) e
+        ap (drop settingsAt) leaves ∙ settings-bytes (after c es) (after-valid c es v .port .size)
+        ∙ ap settingsBytes e
 
     pub ticks-left : after c es .settings ≡ ticks.advanced (passed calls) (c .settings)
-        → drop 40 (afterCalls b calls) ≡ drop 40 (advanceBytes b (passed calls))
+        → drop settingsAt (afterCalls b calls) ≡ drop settingsAt (advanceBytes b (passed calls))
     ticks-left e =
         settings-left (ticks.advanced (passed calls) (c .settings)) e
         ∙ sym (settings-bytes (advanced (passed calls) c) (advanced-valid (passed calls) c v .port .size))
-        ∙ ap (drop 40) (sym (advance-leaves c v (passed calls)) ∙ ap (λ (l : List ℕ). advanceBytes l (passed calls)) (trip b valid))
+        ∙ ap (drop settingsAt) (sym (advance-leaves c v (passed calls)) ∙ ap (λ (l : List ℕ). advanceBytes l (passed calls)) (trip b valid))
 
-    pub port-left : (m : List ℕ) → after c es .port ≡ idle m high → take 40 (afterCalls b calls) ≡ m ++ noFrame
+    pub port-left : (m : List ℕ) → after c es .port ≡ idle m high → take settingsAt (afterCalls b calls) ≡ m ++ noFrame
     port-left m e =
-        ap (take 40) leaves ∙ port-bytes (after c es) (after-valid c es v .port .size)
-        ∙ ap (λ (p : Port). p .memory ++ frameBytes p) e
+        ap (take settingsAt) leaves ∙ port-bytes (after c es) (after-valid c es v .port .size)
+        ∙ ap (λ (p : Port). portBytes p) e
 
     pub told : Sixteen (sent calls) → (bits : ℕ) (rest : List Answer) (numbers : List ℕ) → map answerCode rest ≡ numbers
         → answers c es ≡ firstAnswer (c .port) ∷ Opened ∷ bitAnswers bits ++ rest

@@ -9,7 +9,7 @@ use lib.ListN.{length}
 use Rattle.ground.specs.declared.Outcome.the-variants.{Written}
 use Rattle.ground.specs.Outcomes.{Row, row, numberBy, AsTabled}
 use Rattle.ground.specs.Places.{lowest, somewhere}
-use Rattle.ground.specs.Sizes.{addresses}
+use Rattle.ground.specs.Sizes.{addresses, recordLength}
 use Rattle.commands.specs.Commands.{commandFault}
 use Rattle.chip.specs.Chip.{stepped}
 use Rattle.pins.specs.Pins.{pinsShown}
@@ -54,7 +54,7 @@ abbrev pub powerOnTable : List ℕ → ℕ → List Row
 powerOnTable memory room =
     row (not (eqb (length memory) addresses)) 29 0
     ∷ row (somewhere (ltb 15) memory) 23 (lowest (ltb 15) memory)
-    ∷ row (ltb room 64) 25 0 ∷ []
+    ∷ row (ltb room recordLength) 25 0 ∷ []
 
 -- 01 "State record and simulator": a sample, ticks and the pins of a record.
 abbrev pub stepTable : List ℕ → ℕ → List Row
@@ -78,7 +78,7 @@ pub record Accepted : Type 0 where
   pub read : (first count room : ℕ) → AsTabled (readTable first count room) (21 + 8 * count) (readAnswer first count room)
   pub commands : (codes : List ℕ) (room : ℕ) → AsTabled (commandTable codes room) (9 + 18 * length codes) (commandAnswer codes room)
   pub decode : (noted : List ℕ) (room : ℕ) → AsTabled (decodeTable noted room) (length noted / 4) (decodeAnswer noted room)
-  pub powerOn : (memory : List ℕ) (room : ℕ) → AsTabled (powerOnTable memory room) 64 (powerOnAnswer memory room)
+  pub powerOn : (memory : List ℕ) (room : ℕ) → AsTabled (powerOnTable memory room) recordLength (powerOnAnswer memory room)
   -- the same through the calls for C
   pub writeCall : (first : ℕ) (nibbles out : List ℕ)
       → writeReturns first nibbles out ≡ codeBy (writeTable first nibbles (length out)) (21 + 8 * length nibbles)
@@ -86,7 +86,7 @@ pub record Accepted : Type 0 where
       → readReturns first count out ≡ codeBy (readTable first count (length out)) (21 + 8 * count)
   pub commandsCall : (codes out : List ℕ) → commandsReturns codes out ≡ codeBy (commandTable codes (length out)) (9 + 18 * length codes)
   pub decodeCall : (noted out : List ℕ) → decodeReturns noted out ≡ codeBy (decodeTable noted (length out)) (length noted / 4)
-  pub powerOnCall : (memory bytes : List ℕ) → powerOnReturns memory bytes ≡ codeBy (powerOnTable memory (length bytes)) 64
+  pub powerOnCall : (memory bytes : List ℕ) → powerOnReturns memory bytes ≡ codeBy (powerOnTable memory (length bytes)) recordLength
   -- and the numbers of the calls on a record
   pub step : (bytes : List ℕ) (sample : ℕ)
       → stepReturns bytes sample ≡ numberBy (stepTable bytes sample) (answerCode (stepped (chipOf bytes) sample .answer))

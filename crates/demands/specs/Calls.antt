@@ -7,7 +7,8 @@ use Prim.Native.Nat.{ℕ, zero, suc}
 use lib.Dec.{eqb}
 use lib.ListN.{replicate}
 use Rattle.ground.specs.Bits.{bitAt}
-use Rattle.state.specs.Record.{byte, recordValid}
+use Rattle.ground.specs.Written.{byte}
+use Rattle.state.specs.Record.{recordValid}
 use Rattle.simulator.specs.Simulator.{stepReturns, stepBytes, advanceBytes}
 use Rattle.demands.specs.Events.{Event, sample, tick, samples, ticks}
 

@@ -8,7 +8,9 @@ use lib.ListN.{length, take, drop, replicate}
 use lib.Seq.{paste}
 use Rattle.ground.specs.Bits.{bitAt, bitNumber}
 use Rattle.ground.specs.Sizes.{addresses}
-use Rattle.state.specs.Record.{byte, settingsBytes, settingsOf, recordValid}
+use Rattle.ground.specs.Written.{byte}
+use Rattle.settings.specs.Bytes.{settingsAt, settingsBytes, settingsOf}
+use Rattle.state.specs.Record.{recordValid}
 use Rattle.simulator.specs.Simulator.{advanceBytes}
 use Rattle.streams.specs.Streams.{writeStream, readStream, commandStream}
 use Rattle.demands.specs.Events.{ReadsAs}
@@ -57,22 +59,22 @@ noFrame = 15 ∷ replicate 7 0
 
 -- A write leaves the asked nibbles and no frame, and in bytes 40 to 63 what one `advance` by all the ticks leaves there.
 pub record CallsWrite (bytes : List ℕ) (first : ℕ) (nibbles : List ℕ) (calls : List Call) : Type 0 where
-  pub port : take 40 (afterCalls bytes calls) ≡ paste (take addresses bytes) first nibbles (length nibbles) ++ noFrame
-  pub settings : drop 40 (afterCalls bytes calls) ≡ drop 40 (advanceBytes bytes (passed calls))
+  pub port : take settingsAt (afterCalls bytes calls) ≡ paste (take addresses bytes) first nibbles (length nibbles) ++ noFrame
+  pub settings : drop settingsAt (afterCalls bytes calls) ≡ drop settingsAt (advanceBytes bytes (passed calls))
   pub returned : returns bytes calls ≡ openingReturns bytes ++ bitReturns 9 ++ nibbleReturns first nibbles
 
 -- A read leaves the memory, and what is noted reads back as the bytes asked for.
 pub record CallsRead (bytes : List ℕ) (first count : ℕ) (calls : List Call) : Type 0 where
-  pub port : take 40 (afterCalls bytes calls) ≡ take addresses bytes ++ noFrame
-  pub settings : drop 40 (afterCalls bytes calls) ≡ drop 40 (advanceBytes bytes (passed calls))
+  pub port : take settingsAt (afterCalls bytes calls) ≡ take addresses bytes ++ noFrame
+  pub settings : drop settingsAt (afterCalls bytes calls) ≡ drop settingsAt (advanceBytes bytes (passed calls))
   pub returned : returns bytes calls ≡ openingReturns bytes ++ bitReturns 9 ++ nibblesOffered first (take count (drop first (take addresses bytes)))
   pub readBack : ReadsAs (noted bytes calls) (take count (drop first (take addresses bytes)))
 
 -- Commands leave the memory, and bytes 40 to 63 as their effects, each at its sample, and the ticks between them make them.
 pub record CallsCommand (bytes codes : List ℕ) (calls : List Call) : Type 0 where
-  pub port : take 40 (afterCalls bytes calls) ≡ take addresses bytes ++ noFrame
-  pub settings : drop 40 (afterCalls bytes calls)
-      ≡ settingsBytes (between (dueCommands 26 codes) 0 (eventsOf calls) (settingsOf bytes)) ++ replicate 6 0
+  pub port : take settingsAt (afterCalls bytes calls) ≡ take addresses bytes ++ noFrame
+  pub settings : drop settingsAt (afterCalls bytes calls)
+      ≡ settingsBytes (between (dueCommands 26 codes) 0 (eventsOf calls) (settingsOf bytes))
   pub returned : returns bytes calls ≡ openingReturns bytes ++ bitReturns 3 ++ commandReturns codes
 
 pub record Demand2OfRecords : Type 0 where
@@ -88,7 +90,7 @@ pub record Demand2OfRecords : Type 0 where
 -- A write that stops after k samples: what it leaves, also when it is then sent again, and what a read-back after that notes.
 pub record CallsSurvive (bytes : List ℕ) (first : ℕ) (nibbles : List ℕ) (k : ℕ) (calls : List Call) : Type 0 where
   pub memory : take addresses (afterCalls bytes calls) ≡ paste (take addresses bytes) first nibbles (completed (length nibbles) k)
-  pub settings : drop 40 (afterCalls bytes calls) ≡ drop 40 (advanceBytes bytes (passed calls))
+  pub settings : drop settingsAt (afterCalls bytes calls) ≡ drop settingsAt (advanceBytes bytes (passed calls))
   pub resent : (again : List Call) → sent again ≡ writeStream first nibbles
       → take addresses (afterCalls (afterCalls bytes calls) again) ≡ paste (take addresses bytes) first nibbles (length nibbles)
   pub readBack : (again back : List Call) → sent again ≡ writeStream first nibbles → sent back ≡ readStream first (length nibbles)
