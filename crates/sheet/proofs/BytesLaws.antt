@@ -2,45 +2,58 @@
 -- and the settings' own. Assumes nothing.
 use mathlib.Core.Path.{_≡_, _∙_, refl, sym, ap, ap₂}
 use mathlib.Core.Bool.{true, _||_}
-use mathlib.Core.List.{List, _++_, append-assoc}
-use Prim.Native.Nat.{ℕ, _+_}
+use mathlib.Core.List.{List, _++_}
+use Prim.Native.Nat.{ℕ, _+_, _≤_, _<_}
+use native.Mathlib.Nat.{lt-of-lt-of-le}
 use native.Mathlib.Omega.{arith}
 use lib.Dec.{eqb}
-use lib.ListN.{take, replicate}
+use lib.ListN.{take, drop}
+use lib.Pow.{pow-mono}
+use Rattle.ground.proofs.BitsLaws.{bitNumber-back}
+use Rattle.ground.proofs.WrittenLaws.{gather, gathered}
 use Rattle.clock.specs.declared.Source.{Source}
 use Rattle.clock.specs.declared.Source.the-variants.{Xtal, Rc, Ext}
-use Rattle.settings.specs.declared.Settings.{Settings}
 use Rattle.clock.specs.Numbers.{sourceNumber}
+use Rattle.phases.specs.Frame.{valueIn}
+use Rattle.phases.proofs.FrameLaws.{fits-has, most-small}
+use Rattle.settings.specs.declared.Settings.{Settings}
+use Rattle.settings.specs.Bytes.{settingsBytes, settingsOf}
 use Rattle.ticks.specs.Ticks.{isExt, running}
-use Rattle.state.specs.Record.{frameBytes, settingsBytes, settingsOf, recordValid, recordOf, tailOf, chipOf}
-use Rattle.state.proofs.BytesLaws.{port-bytes}
+use Rattle.state.specs.Record.{portBytes, recordValid, recordOf, chipOf}
+use Rattle.state.proofs.BytesLaws.{port-bytes, record-parts}
 use Rattle.state.proofs.ChipLaws.{valid-chip}
-use Rattle.state.proofs.CodesLaws.{bitNumber-back}
-use Rattle.state.proofs.TripLaws.{gather, gathered, valid-has, trip}
-use Rattle.sheet.specs.Bytes.{runs}
-
-abbrev pub settled : Settings → List ℕ
-settled s = settingsBytes s ++ replicate 6 0
+use Rattle.state.proofs.TripLaws.{valid-has, trip}
+use Rattle.sheet.specs.Bytes.{byte, runs}
 
 abbrev pub spelt : List ℕ → Settings → List ℕ
-spelt b s = gather 40 0 b ++ settled s
+spelt b s = gather 40 0 b ++ settingsBytes s
 
 module _ (b : List ℕ) (valid : recordValid b ≡ true) where
-  forty : chipOf b .port .memory ++ frameBytes (chipOf b .port) ≡ gather 40 0 b
+  forty : portBytes (chipOf b .port) ≡ gather 40 0 b
   forty =
       sym (port-bytes (chipOf b) (valid-chip b valid .port .size))
       ∙ ap (take 40) (trip b valid ∙ gathered 40 0 b (omega (arith, valid-has b valid .long)))
 
   -- a record in which other settings are written
   pub settings-written : (s : Settings) → recordOf (record { port = chipOf b .port; settings = s }) ≡ spelt b s
-  unfolding recordOf tailOf
-  settings-written s =
-      sym (append-assoc (chipOf b .port .memory) (frameBytes (chipOf b .port)) (settled s)) ∙ ap (λ (l : List ℕ). l ++ settled s) forty
+  settings-written s = record-parts (record { port = chipOf b .port; settings = s }) ∙ ap (λ (l : List ℕ). l ++ settingsBytes s) forty
 
   -- and in which its own stand
   pub bytes-spelt : b ≡ spelt b (settingsOf b)
   unfolding chipOf
   bytes-spelt = sym (trip b valid) ∙ settings-written (settingsOf b)
+
+  -- of which it has the last 24 bytes
+  pub settings-said : drop 40 b ≡ settingsBytes (chipOf b .settings)
+  unfolding chipOf
+  settings-said = ap (drop 40) bytes-spelt
+
+  -- eight unfinished bits are the most
+  pub value-small : valueIn b < 256
+  value-small =
+      let frame = fits-has b (valid-has b valid .frame) in
+      let eight : byte b 34 ≤ 8 = omega (arith, frame .most, most-small (byte b 33)) in
+      lt-of-lt-of-le (frame .small) (pow-mono eight)
 
 -- Running, by the bytes and by the settings that they say.
 pub runs-running : (b : List ℕ) (s : Settings) → runs (spelt b s) ≡ running s

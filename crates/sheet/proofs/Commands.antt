@@ -2,9 +2,9 @@
 use mathlib.Core.Path.{_≡_, _∙_, refl, sym, ap, ap₂, subst}
 use mathlib.Core.Bool.{Bool, true, false, cond, not}
 use mathlib.Core.List.{List}
-use Prim.Native.Nat.{ℕ, _+_, _*_, _%_, _^_, _≤_, _<_}
+use Prim.Native.Nat.{ℕ, _+_, _*_, _≤_, _<_}
 use native.Mathlib.Omega.{arith}
-use lib.Dec.{eqb, ltb}
+use lib.Dec.{ltb}
 use lib.ListN.{drop, getD}
 use borrow.Author.Tests.{le-ltb, ltb-false}
 use Rattle.ground.specs.Values.{values, agree}
@@ -20,23 +20,24 @@ use Rattle.commands.specs.declared.Decoded.{Decoded}
 use Rattle.frames.specs.declared.Framed.{Framed}
 use Rattle.lines.specs.Samples.{levels, edge}
 use Rattle.frames.specs.Frames.{framed, frame, taken, commandTaken}
-use Rattle.phases.specs.Phases.{address}
-use Rattle.phases.specs.Phases.{unfinished}
+use Rattle.phases.specs.Phases.{address, unfinished, phaseNumber}
+use Rattle.phases.specs.Frame.{mostBits, valueIn, phaseRead}
+use Rattle.phases.specs.Valid.{FrameValid}
+use Rattle.phases.proofs.FrameLaws.{FrameHas, fits-has, FrameSame, frame-same}
+use Rattle.settings.specs.Bytes.{settingsBytes, settingsOf}
 use Rattle.chip.specs.declared.Chip.{Chip}
 use Rattle.chip.specs.Chip as model
 use Rattle.chip.specs.Chip.{decodedAnswer, obeyedAs, settingsAfter, steppedTo, stepped}
 use Rattle.port.specs.Port.{framedBy, moved}
 use Rattle.chip.proofs.ValidLaws.{stepped-valid}
-use Rattle.state.specs.FrameCodes.{phaseRead, phaseNumber}
-use Rattle.state.specs.Record.{mostBits, goesWithCs, valueIn, settingsOf, recordValid, recordOf, chipOf}
-use Rattle.state.proofs.ChipLaws.{valid-chip, cs-low}
-use Rattle.state.proofs.FramesLaws.{FrameHas, frame-has, FrameSame, frame-same}
-use Rattle.state.proofs.TripLaws.{valid-has, within}
+use Rattle.state.specs.Record.{recordValid, recordOf, chipOf}
+use Rattle.state.proofs.ChipLaws.{valid-chip}
+use Rattle.state.proofs.TripLaws.{valid-has}
 use Rattle.simulator.specs.Simulator.{answerCode, stepReturns, stepBytes}
 use Rattle.state.proofs.BytesLaws.{settings-bytes}
 use Rattle.sheet.specs.Bytes.{byte}
 use Rattle.sheet.specs.Commands.{defined, effectOf, NinthBit, CommandsSheet}
-use Rattle.sheet.proofs.BytesLaws.{settled, bytes-spelt}
+use Rattle.sheet.proofs.BytesLaws.{bytes-spelt, settings-said, value-small}
 use Rattle.sheet.proofs.CommandsLaws.{effect-same, defined-same, code-taken, code-meaning, code-told}
 use Rattle.sheet.proofs.NinthBitLaws.{first-bit, edge-takes, takes-only, frame-keeps}
 
@@ -47,10 +48,7 @@ module _ (b : List ℕ) (sample : ℕ) (valid : recordValid b ≡ true) where
   c = chipOf b
 
   has : FrameHas (byte b 32) (byte b 33) (byte b 34) (valueIn b) (byte b 37) (byte b 38) (byte b 39)
-  has = frame-has (byte b 32) (byte b 33) (byte b 34) (valueIn b) (byte b 37) (byte b 38) (byte b 39) (valid-has b valid .frame)
-
-  settled-said : drop 40 b ≡ settled (settingsOf b)
-  settled-said = ap (drop 40) (bytes-spelt b valid)
+  has = fits-has b (valid-has b valid .frame)
 
   module _ (low : sample ≤ 15) where
     abbrev upshot : Upshot
@@ -60,38 +58,33 @@ module _ (b : List ℕ) (sample : ℕ) (valid : recordValid b ≡ true) where
     unfolding stepReturns stepped steppedTo moved
     returns-answer = simp (valid, le-ltb 15 sample low)
 
-    leaves-settings : drop 40 (stepBytes b sample) ≡ settled (settingsAfter upshot (settingsOf b))
+    leaves-settings : drop 40 (stepBytes b sample) ≡ settingsBytes (settingsAfter upshot (settingsOf b))
     unfolding stepBytes stepped steppedTo moved chipOf
     leaves-settings =
         let bytes : stepBytes b sample ≡ recordOf (stepped c sample .chip) = simp (valid, le-ltb 15 sample low) in
         let settings : stepped c sample .chip .settings ≡ settingsAfter upshot (settingsOf b) = simp (le-ltb 15 sample low) in
         ap (drop 40) bytes
         ∙ settings-bytes (stepped c sample .chip) (stepped-valid c sample (valid-chip b valid) .port .size)
-        ∙ ap settled settings
+        ∙ ap settingsBytes settings
 
   -- ---- that takes the ninth bit
 
   module _ (ninth : NinthBit b sample) where
-    value-small : valueIn b < 256
-    value-small = subst (λ (n : ℕ). valueIn b < 2 ^ n) (ninth .count) (has .small)
-
     value-code : valueIn b ≡ byte b 35
-    value-code = omega (arith, value-small)
+    value-code = omega (arith, value-small b valid)
 
     code-small : byte b 35 < 256
-    code-small = omega (arith, value-small)
-
-    was-low : eqb (byte b 32 % 2) 1 ≡ false
-    unfolding goesWithCs
-    was-low = cs-low _ (subst (λ (n : ℕ). goesWithCs (byte b 32) n ≡ true) (ninth .phase) (has .cs))
-
-    takes : edge (levels (byte b 32)) (levels sample) ≡ Takes (levels sample .bit)
-    takes =
-        edge-takes (levels (byte b 32)) (levels sample) was-low (sym (first-bit sample (ninth .inRange)) ∙ ninth .cs) (ninth .wr) (ninth .rd)
+    code-small = omega (arith, value-small b valid)
 
     commanding : c .port .phase ≡ Command 8 (byte b 35)
     unfolding chipOf phaseRead
     commanding = simp (ninth .phase, ninth .count, value-code)
+
+    takes : edge (levels (byte b 32)) (levels sample) ≡ Takes (levels sample .bit)
+    unfolding chipOf
+    takes =
+        let was-low = subst (FrameValid (c .port .levels .cs) (c .port .line)) commanding (valid-chip b valid .port .frame) .0 in
+        edge-takes (levels (byte b 32)) (levels sample) was-low (sym (first-bit sample (ninth .inRange)) ∙ ninth .cs) (ninth .wr) (ninth .rd)
 
     frames : framedBy (c .port) (levels sample) ≡ framed (Command 0 0) Released (Code (byte b 35))
     unfolding framedBy frame taken commandTaken chipOf
@@ -110,8 +103,8 @@ module _ (b : List ℕ) (sample : ℕ) (valid : recordValid b ≡ true) where
     unfolding settingsAfter
     obeyed =
         leaves-settings (ninth .inRange)
-        ∙ ap (λ (f : Framed). settled (settingsAfter (f .upshot) (settingsOf b))) frames
-        ∙ ap (λ (d : Decoded). settled (obeyedAs d (settingsOf b))) (code-meaning (byte b 35) code-small)
+        ∙ ap (λ (f : Framed). settingsBytes (settingsAfter (f .upshot) (settingsOf b))) frames
+        ∙ ap (λ (d : Decoded). settingsBytes (obeyedAs d (settingsOf b))) (code-meaning (byte b 35) code-small)
         ∙ sym (effect-same b (settingsOf b) (byte b 35) code-small)
         ∙ ap (λ (l : List ℕ). drop 40 (effectOf (byte b 35) l)) (sym (bytes-spelt b valid))
 
@@ -119,8 +112,7 @@ module _ (b : List ℕ) (sample : ℕ) (valid : recordValid b ≡ true) where
 
   same : FrameSame (byte b 33) (byte b 34) (valueIn b) (byte b 37) (byte b 38) (c .port .phase)
   unfolding chipOf
-  same =
-      frame-same (byte b 32) (byte b 34) (valueIn b) (byte b 37) (byte b 38) (byte b 39) (byte b 33) (within b (valid-has b valid) 33 (omega arith)) has
+  same = frame-same (byte b 32) (byte b 34) (valueIn b) (byte b 37) (byte b 38) (byte b 39) (byte b 33) has
 
   is-ninth : sample ≤ 15 → (bit : Bool) → edge (levels (byte b 32)) (levels sample) ≡ Takes bit → phaseNumber (c .port .phase) ≡ 6
       → 8 ≤ unfinished (c .port .phase) → NinthBit b sample
@@ -146,9 +138,9 @@ module _ (b : List ℕ) (sample : ℕ) (valid : recordValid b ≡ true) where
       by false e =
           let low = ltb-false 15 sample e in
           leaves-settings low
-          ∙ ap settled (frame-keeps (edge (levels (byte b 32)) (levels sample)) (getD (c .port .memory) (address (c .port .phase)) 0) (c .port .phase) (c .port .line) (settingsOf b)
+          ∙ ap settingsBytes (frame-keeps (edge (levels (byte b 32)) (levels sample)) (getD (c .port .memory) (address (c .port .phase)) 0) (c .port .phase) (c .port .line) (settingsOf b)
           (λ bit z code eight. never (is-ninth low bit z code eight)))
-          ∙ sym settled-said
+          ∙ sym (settings-said b valid)
 
 -- what the driver refuses, and the ninth bit, code by code
 faults : values commandFault 0 256 ≡ values (λ c. not (defined c)) 0 256

@@ -1,9 +1,9 @@
 -- Each code's effect on the bytes is its meaning's effect on the settings: one computed test of them all but the few whose
 -- effect goes by a source. Assumes nothing.
-use mathlib.Core.Path.{_≡_, refl, sym}
+use mathlib.Core.Path.{_≡_, refl}
 use mathlib.Core.Bool.{Bool, cond, not}
 use mathlib.Core.List.{List}
-use Prim.Native.Nat.{ℕ, zero, suc, _+_, _*_, _/_, _%_, _≤_, _<_}
+use Prim.Native.Nat.{ℕ, zero, suc, _+_, _*_, _/_, _%_, _<_}
 use native.Mathlib.Omega.{arith}
 use native.Mathlib.Nat.{add-zero}
 use lib.ListN.{drop}
@@ -20,13 +20,12 @@ use Rattle.settings.specs.declared.IrqSource.the-variants.{Neither, TimeBase, F
 use Rattle.settings.specs.declared.Settings.{Settings}
 use Rattle.rules.specs.Effects.{effect}
 use Rattle.settings.specs.Settings.{sourceTo, irqSourceTo}
+use Rattle.settings.specs.Bytes.{settingsBytes}
 use Rattle.frames.specs.Frames.{more}
-use Rattle.chip.specs.Chip.{decodedAnswer}
-use Rattle.answers.specs.Answers.{act}
-use Rattle.chip.specs.Chip.{obeyedAs, settingsAfter}
+use Rattle.chip.specs.Chip.{decodedAnswer, obeyedAs}
 use Rattle.simulator.specs.Simulator.{answerCode}
 use Rattle.sheet.specs.Commands.{defined, effectOf}
-use Rattle.sheet.proofs.BytesLaws.{spelt, settled}
+use Rattle.sheet.proofs.BytesLaws.{spelt}
 
 -- ---- the effect of a code
 
@@ -35,7 +34,7 @@ module _ (b : List ℕ) where
   on-bytes s code = drop 40 (effectOf code (spelt b s))
 
   abbrev on-settings : Settings → ℕ → List ℕ
-  on-settings s code = settled (obeyedAs (byteMeaning code) s)
+  on-settings s code = settingsBytes (obeyedAs (byteMeaning code) s)
 
   -- the three codes whose effect goes by a source
   sys-dis : (s : Settings) (source : Source) → on-bytes (sourceTo source s) 0x00 ≡ on-settings (sourceTo source s) 0x00
@@ -56,7 +55,7 @@ module _ (b : List ℕ) where
   wdt-dis s TimeBase = refl
   wdt-dis s Flag = refl
 
-  pub effect-same : (s : Settings) (code : ℕ) → code < 256 → drop 40 (effectOf code (spelt b s)) ≡ settled (obeyedAs (byteMeaning code) s)
+  pub effect-same : (s : Settings) (code : ℕ) → code < 256 → drop 40 (effectOf code (spelt b s)) ≡ settingsBytes (obeyedAs (byteMeaning code) s)
   unfolding byteMeaning effect obeyedAs
   effect-same s zero h = sys-dis s (s .system .source)
   effect-same s (suc zero) h = refl

@@ -5,11 +5,10 @@ use mathlib.Core.Bool.{Bool, true, false, cond}
 use mathlib.Core.List.{List}
 use mathlib.Core.Logic.{inl, inr, ⊎-elim}
 use Prim.Native.Nat.{ℕ, zero, suc, _+_, _*_, _/_, _%_, _≤_, _<_}
-use native.Mathlib.Nat.{add-zero, mod-eq-of-lt, lt-of-lt-of-le}
+use native.Mathlib.Nat.{add-zero, mod-eq-of-lt}
 use native.Mathlib.Omega.{arith}
 use lib.Dec.{eqb}
 use lib.ListN.{getD, take}
-use lib.Pow.{pow-mono}
 use lib.Seq.{getD-take}
 use borrow.Author.Tests.{lt-ltb}
 use Rattle.ground.specs.Bits.{bitAt, bitNumber}
@@ -25,18 +24,18 @@ use Rattle.lines.specs.declared.Edge.the-variants as edges
 use Rattle.lines.specs.Samples.{levels, edge}
 use Rattle.frames.specs.Frames as model
 use Rattle.frames.specs.Frames.{frame, framed}
-use Rattle.phases.specs.Phases.{address}
-use Rattle.phases.specs.Phases.{unfinished}
+use Rattle.phases.specs.Phases.{address, unfinished, valueOf, positionOf, phaseNumber}
+use Rattle.phases.specs.Frame.{valueIn, phaseRead}
+use Rattle.phases.proofs.FrameLaws.{FrameHas, fits-has}
 use Rattle.port.specs.Port.{memoryAfter, framedBy}
 use Rattle.frames.specs.declared.Upshot.the-variants.{Answered, Nibble, Code}
 use Rattle.chip.specs.Chip.{decodedAnswer, obeyedAs, settingsAfter}
-use Rattle.state.specs.FrameCodes.{phaseRead, phaseNumber, valueOf, positionOf}
 use Rattle.state.specs.Record.{recordValid, chipOf}
-use Rattle.state.proofs.FramesLaws.{frame-has}
-use Rattle.state.proofs.TripLaws.{RecordHas, valid-has, within}
+use Rattle.state.proofs.TripLaws.{valid-has}
 use Rattle.simulator.specs.Simulator.{answerCode}
 use Rattle.sheet.specs.Bytes.{byte}
 use Rattle.sheet.specs.Frames.{OnlyLevels, Leaves, due, Offers, bits, withBit, beforeLast, identified, nibbleOf, oneMore, Completes, Takes}
+use Rattle.sheet.proofs.BytesLaws.{value-small}
 use Rattle.sheet.proofs.FramesLaws.{frameLeft, phase-at, code-said, low-said, high-said, address-said, position-said, read-frame, stray-fall, ident-made}
 use Rattle.sheet.proofs.SamplesLaws.{tells, stores, leaves, port-left, only, framed-by}
 
@@ -50,8 +49,8 @@ id-told phase = by (eqb phase 7)
     by false = refl
 
 module _ (b : List ℕ) (valid : recordValid b ≡ true) (s : ℕ) (small : s ≤ 15) where
-  has : RecordHas b
-  has = valid-has b valid
+  has : FrameHas (byte b 32) (byte b 33) (byte b 34) (valueIn b) (byte b 37) (byte b 38) (byte b 39)
+  has = fits-has b (valid-has b valid .frame)
 
   -- ---- an RD fall
 
@@ -61,7 +60,7 @@ module _ (b : List ℕ) (valid : recordValid b ≡ true) (s : ℕ) (small : s �
 
     due-said : bitNumber (bitAt (byte b 38) nibble) ≡ due b
     due-said =
-        ap (λ (n : ℕ). bitNumber (bitAt (byte b 38) n)) (getD-take 32 b (byte b 37) 0 (omega (arith, within b has 37 (omega arith))))
+        ap (λ (n : ℕ). bitNumber (bitAt (byte b 38) n)) (getD-take 32 b (byte b 37) 0 (has .near))
         ∙ bitNumber-bitAt (byte b 38) (byte b (byte b 37))
 
     pub offers : Offers b s
@@ -72,7 +71,7 @@ module _ (b : List ℕ) (valid : recordValid b ≡ true) (s : ℕ) (small : s �
               leaves b valid s small (model.readOffered nibble (byte b 37) (byte b 38))
               (framed-by b valid s small edges.Offers fall (Reading (byte b 37) (byte b 38)) (phase-at b valid 4 e)) _ _ _ refl
               (rw due-said)
-              (read-frame (byte b 37) (byte b 38) (Driven (bitAt (byte b 38) nibble)) (within b has 38 (omega arith))
+              (read-frame (byte b 37) (byte b 38) (Driven (bitAt (byte b 38) nibble)) (has .one-of-4)
               ∙ rw due-said);
           writing = λ e.
               let writes = Writing (byte b 34) (bits b) (byte b 37) (byte b 38) in
@@ -92,16 +91,13 @@ module _ (b : List ℕ) (valid : recordValid b ≡ true) (s : ℕ) (small : s �
   -- ---- a WR rise
 
   module _ (rise : edge (chipOf b .port .levels) (levels s) ≡ edges.Takes (bitAt 3 s)) where
-    -- eight unfinished bits are the most, and one more fits into nine
-    bits-small : bits b < 256
-    bits-small = lt-of-lt-of-le (frame-has _ _ _ _ _ _ _ (has .frame) .small) (pow-mono (within b has 34 (omega arith)))
-
+    -- one more than eight bits fits into nine
     with-bit : model.more (bits b) (bitAt 3 s) ≡ withBit b s
-    with-bit = rw (bitNumber-bitAt 3 s) (mod-eq-of-lt (omega (arith, bits-small)))
+    with-bit = rw (bitNumber-bitAt 3 s) (mod-eq-of-lt (omega (arith, value-small b valid)))
 
     -- the ninth is ignored
     upper-eight : withBit b s / 2 % 256 ≡ bits b
-    upper-eight = omega (arith, bits-small)
+    upper-eight = omega (arith, value-small b valid)
 
     module _ (phase : Phase) (now : chipOf b .port .phase ≡ phase) where
       taken-by : framedBy (chipOf b .port) (levels s) ≡ model.taken (bitAt 3 s) phase (chipOf b .port .line)

@@ -16,9 +16,8 @@ use Rattle.frames.specs.declared.Upshot.the-variants.{Answered}
 use Rattle.frames.specs.declared.Framed.{Framed}
 use Rattle.frames.specs.Frames as model
 use Rattle.frames.specs.Frames.{framed}
-use Rattle.phases.specs.Phases.{address}
-use Rattle.phases.specs.Phases.{unfinished, lineNumber}
-use Rattle.state.specs.FrameCodes.{phaseRead, phaseNumber, valueOf, positionOf, phaseIn}
+use Rattle.phases.specs.Phases.{address, unfinished, valueOf, positionOf, phaseNumber, lineNumber}
+use Rattle.phases.specs.Frame.{phaseRead, phaseIn}
 use Rattle.state.specs.Record.{recordValid, tailOf, chipOf}
 use Rattle.state.proofs.BytesLaws.{byte-past}
 use Rattle.state.proofs.TripLaws.{trip}

@@ -9,13 +9,14 @@ use lib.Dec.{ltb}
 use lib.ListN.{length}
 use borrow.Author.Tests.{ltb-false}
 use Rattle.ground.proofs.BitsLaws.{bitNumber-small}
+use Rattle.phases.proofs.FrameLaws.{fits-has}
 use Rattle.chip.specs.declared.Chip.{Chip}
 use Rattle.chip.specs.Chip.{stepped, advanced}
 use Rattle.chip.specs.Valid.{Valid}
 use Rattle.chip.proofs.ValidLaws.{stepped-valid, advanced-valid}
 use Rattle.state.specs.Record.{recordValid, recordOf, chipOf}
 use Rattle.state.proofs.ChipLaws.{valid-chip, chip-valid}
-use Rattle.state.proofs.TripLaws.{valid-has, within}
+use Rattle.state.proofs.TripLaws.{valid-has}
 use Rattle.simulator.specs.Simulator.{answerCode, stepReturns, stepBytes, advanceReturns, advanceBytes, pinsReturns, pinsBytes}
 use Rattle.sheet.specs.Pins.{irqIsLow, sounds, toneIsHigh}
 use Rattle.sheet.specs.Left.{Keeps, StepRefused, PinsRefused, LeftSheet}
@@ -72,7 +73,7 @@ pins-keep b out = by (recordValid b) (ltb (length out) 32) refl refl
     by true true e f = unchanged (rw (e, f))
     by true false e f =
         let told = pins-sheet .calls b out e (ltb-false (length out) 32 f) in
-        let line = within b (valid-has b e) 39 (omega arith) in
+        let line = fits-has b (valid-has b e .frame) .data-low in
         let few : pinsReturns b out ≤ 23 =
         omega (arith, told .returned, line, bitNumber-small (irqIsLow b), bitNumber-small (sounds b && toneIsHigh b), bitNumber-small (sounds b && not (toneIsHigh b))) in
         record {

@@ -18,9 +18,8 @@ use Rattle.phases.specs.declared.Line.{Line}
 use Rattle.frames.specs.declared.Framed.{Framed}
 use Rattle.lines.specs.Samples.{edge, rose, clocked}
 use Rattle.frames.specs.Frames.{more, identified, identTaken, readToTaken, writeToTaken, nibbleTaken, commandTaken, taken, readOffered, offered, closed, frame}
-use Rattle.phases.specs.Phases.{unfinished}
+use Rattle.phases.specs.Phases.{unfinished, phaseNumber}
 use Rattle.chip.specs.Chip.{settingsAfter}
-use Rattle.state.specs.FrameCodes.{phaseNumber}
 
 -- ---- the edge that takes a bit
 

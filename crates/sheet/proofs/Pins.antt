@@ -4,55 +4,47 @@ use mathlib.Core.Bool.{Bool, true, _&&_}
 use mathlib.Core.List.{List, map}
 use Prim.Native.Nat.{ℕ, _+_, _≤_}
 use native.Mathlib.Omega.{arith}
-use lib.Dec.{eqb}
+use lib.Dec.{eqb, ltb}
 use lib.ListN.{length, take, drop, getD, length-map, List·getD-append}
 use lib.Seq.{getD-take, length-take-le}
 use borrow.Author.Tests.{le-ltb}
 use Rattle.ground.specs.Bits.{bitAt}
 use Rattle.ground.specs.Written.{over}
+use Rattle.ground.proofs.BitsLaws.{bitNumber-back}
 use Rattle.ground.proofs.WrittenLaws.{length-over, drop-over}
-use Rattle.ticks.specs.Ticks.{running}
-use Rattle.pins.specs.Pins.{irqLow, wave, sounding, bzHigh, partnerHigh, shows, shownNibble}
-use Rattle.pins.specs.Pins.{pinsShown}
-use Rattle.state.specs.Selections.{sourceRead, isSource, biasRead, isBias, commonsRead, isCommons, pitchRead, isPitch, irqSourceRead, isIrqSource}
-use Rattle.state.specs.Record.{settingsRight, settingsOf, recordValid, chipOf}
-use Rattle.state.proofs.CodesLaws.{line-again, commons-again}
-use Rattle.state.proofs.RangesLaws.{each-of-5}
-use Rattle.state.proofs.TripLaws.{RecordHas, valid-has, within}
+use Rattle.phases.proofs.FrameLaws.{fits-has, line-again}
+use Rattle.settings.specs.Bytes.{settingsOf}
+use Rattle.pins.specs.Pins.{irqLow, wave, sounding, bzHigh, partnerHigh, shows, shownNibble, pinsShown}
+use Rattle.state.specs.Record.{recordValid, chipOf}
+use Rattle.state.proofs.TripLaws.{RecordHas, valid-has}
 use Rattle.simulator.specs.Simulator.{pinsCode, pinsReturns, pinsBytes}
 use Rattle.sheet.specs.Bytes.{byte, runs}
 use Rattle.sheet.specs.Pins.{irqIsLow, sounds, toneIsHigh, cellShows, pinsNumber, PinsTold, PinsShown, PinsSheet}
-use Rattle.sheet.proofs.BytesLaws.{bytes-spelt, runs-running}
-use Rattle.sheet.proofs.PinsLaws.{irq-code, pitch-code, nibble-small, nibble-bit, map-at}
+use Rattle.sheet.proofs.BytesLaws.{spelt, bytes-spelt, runs-running}
+use Rattle.sheet.proofs.PinsLaws.{irq-shown, sounds-sounding, tone-waves, nibble-small, nibble-bit, map-at}
 
 module _ (b : List ℕ) (valid : recordValid b ≡ true) where
   has : RecordHas b
   has = valid-has b valid
 
-  running-runs : running (settingsOf b) ≡ runs b
-  running-runs = sym (ap runs (bytes-spelt b valid) ∙ runs-running b (settingsOf b))
+  -- what the settings show, by the bytes that say them
+  by-bytes : (told : List ℕ → Bool) (shown : Bool) → told (spelt b (settingsOf b)) ≡ shown → shown ≡ told b
+  by-bytes told shown e = sym (ap told (bytes-spelt b valid) ∙ e)
 
   irq-low : irqLow (settingsOf b) ≡ irqIsLow b
-  unfolding irqLow
-  irq-low = ap (λ (t : Bool). eqb (byte b 47) 1 && t) (irq-code (byte b 50) _ (within b has 50 (omega arith)))
+  irq-low = by-bytes irqIsLow _ (irq-shown b (settingsOf b))
 
   sounding-sounds : sounding (settingsOf b) ≡ sounds b
-  unfolding sounding
-  sounding-sounds = ap (λ (t : Bool). t && eqb (byte b 45) 1) running-runs
-
-  selected : (isCommons (commonsRead (byte b 44)) ≡ true) × (isPitch (pitchRead (byte b 46)) ≡ true)
-  unfolding settingsRight
-  selected =
-      let each = each-of-5 (isSource (sourceRead (byte b 41))) (isBias (biasRead (byte b 43))) (isCommons (commonsRead (byte b 44)))
-      (isPitch (pitchRead (byte b 46))) (isIrqSource (irqSourceRead (byte b 50))) (has .settings) in
-      (each .2, each .3)
+  sounding-sounds = by-bytes sounds _ (sounds-sounding b (settingsOf b))
 
   tone-high : wave (settingsOf b .tone .pitch) (settingsOf b .counters .toner .count) ≡ toneIsHigh b
-  tone-high = pitch-code (byte b 46) (byte b 53) (within b has 46 (omega arith)) (selected .1)
+  tone-high = by-bytes toneIsHigh _ (tone-waves b (settingsOf b))
 
   cell-shows : (s c : ℕ) → shows (settingsOf b) c (bitAt c (byte b s)) ≡ cellShows b s c
   unfolding shows
-  cell-shows s c = rw (running-runs, commons-again (byte b 44) (within b has 44 (omega arith)) (selected .0))
+  cell-shows s c =
+      by-bytes (λ l. runs l && eqb (byte l 42) 1 && ltb c (byte l 44) && bitAt c (byte b s)) _
+      (rw (runs-running b (settingsOf b), bitNumber-back (settingsOf b .lcd .on)))
 
   -- the cells of an address, and all of them
   abbrev cellsOf : ℕ → ℕ
@@ -85,7 +77,7 @@ module _ (b : List ℕ) (valid : recordValid b ≡ true) where
     number : pinsReturns b out ≡ pinsNumber b
     unfolding pinsReturns pinsCode pinsShown chipOf bzHigh partnerHigh
     number =
-        rw (valid, le-ltb (length out) 32 room, irq-low, sounding-sounds, tone-high, line-again (byte b 39) (within b has 39 (omega arith)))
+        rw (valid, le-ltb (length out) 32 room, irq-low, sounding-sounds, tone-high, line-again (byte b 39) (fits-has b (has .frame) .data-low))
 
     byte-left : (s : ℕ) → s ≤ 31 → byte (pinsBytes b out) s ≡ cellsOf (byte b s)
     byte-left s h =

@@ -1,5 +1,5 @@
--- What the codes of a record say of its pins, code by code; and a nibble by its bits. Assumes nothing.
-use mathlib.Core.Path.{_≡_, _∙_, refl, sym, ap}
+-- What the bytes that say some settings tell of the pins is what these settings show; and a nibble by its bits. Assumes nothing.
+use mathlib.Core.Path.{_≡_, _∙_, refl, ap, ap₂}
 use mathlib.Core.Bool.{Bool, true, false, _&&_, _||_}
 use mathlib.Core.List.{List, [], _∷_, map}
 use Prim.Native.Nat.{ℕ, zero, suc, _+_, _*_, _/_, _%_, _^_, _≤_, _<_}
@@ -7,35 +7,51 @@ use native.Mathlib.Omega.{arith}
 use lib.Dec.{eqb, leb}
 use lib.ListN.{length, getD}
 use Rattle.ground.specs.Bits.{bitNumber, bitAt}
-use Rattle.ground.proofs.BitsLaws.{bitNumber-small}
-use Rattle.clock.specs.declared.Timer.{Timer}
-use Rattle.pins.specs.Pins.{asserted, wave}
-use Rattle.state.specs.Selections.{pitchRead, isPitch, pitchIn, irqSourceRead, irqSourceIn}
-use Rattle.state.proofs.CodesLaws.{bitNumber-back}
+use Rattle.ground.proofs.BitsLaws.{bitNumber-small, bitNumber-back}
+use Rattle.settings.specs.Numbers.{pitchNumber, irqSourceNumber}
+use Rattle.settings.specs.declared.Pitch.{Pitch}
+use Rattle.settings.specs.declared.Pitch.the-variants.{FourK, TwoK}
+use Rattle.settings.specs.declared.IrqSource.{IrqSource}
+use Rattle.settings.specs.declared.IrqSource.the-variants.{Neither, TimeBase, Flag}
+use Rattle.settings.specs.declared.Settings.{Settings}
+use Rattle.pins.specs.Pins.{asserted, irqLow, wave, sounding}
+use Rattle.sheet.specs.Pins.{irqIsLow, sounds, toneIsHigh}
+use Rattle.sheet.proofs.BytesLaws.{spelt, runs-running}
 
--- ---- what a code reads to, by the code
+-- ---- settings as bytes, and what they show
 
 or-false : (t : Bool) → (t || false) ≡ t
 or-false true = refl
 or-false false = refl
 
-pub irq-code : (code : ℕ) (timer : Timer) → code ≤ 2
-    → asserted (irqSourceIn (irqSourceRead code)) timer ≡ ((eqb code 2 && timer .watchdog .flag) || (eqb code 1 && leb 128 (timer .base .count)))
-unfolding irqSourceRead
-irq-code zero timer h = refl
-irq-code (suc zero) timer h = refl
-irq-code (suc (suc zero)) timer h = sym (or-false (timer .watchdog .flag))
-irq-code (suc (suc (suc code))) timer h = let no : ⊥ = omega arith in absurd no
+module _ (b : List ℕ) (s : Settings) where
+  pub irq-shown : irqIsLow (spelt b s) ≡ irqLow s
+  unfolding irqLow
+  irq-shown =
+      ap₂ (λ (on : Bool) (flag : Bool). on && ((eqb (irqSourceNumber (s .irq .source)) 2 && flag) || (eqb (irqSourceNumber (s .irq .source)) 1 && high)))
+      (bitNumber-back (s .irq .on)) (bitNumber-back (s .counters .timer .watchdog .flag))
+      ∙ ap (λ (t : Bool). s .irq .on && t) (by (s .irq .source))
+    where
+      high : Bool
+      high = leb 128 (s .counters .timer .base .count)
 
-pub pitch-code : (code q : ℕ) → code ≤ 4 → isPitch (pitchRead code) ≡ true
-    → wave (pitchIn (pitchRead code)) q ≡ ((eqb code 4 && leb 4 (q % 8)) || (eqb code 2 && leb 8 q))
-unfolding pitchRead
-pitch-code zero q h e = cc
-pitch-code (suc zero) q h e = cc
-pitch-code (suc (suc zero)) q h e = refl
-pitch-code (suc (suc (suc zero))) q h e = cc
-pitch-code (suc (suc (suc (suc zero)))) q h e = sym (or-false (leb 4 (q % 8)))
-pitch-code (suc (suc (suc (suc (suc code))))) q h e = let no : ⊥ = omega arith in absurd no
+      by : (source : IrqSource)
+          → ((eqb (irqSourceNumber source) 2 && s .counters .timer .watchdog .flag) || (eqb (irqSourceNumber source) 1 && high))
+          ≡ asserted source (s .counters .timer)
+      by Neither = refl
+      by TimeBase = refl
+      by Flag = or-false (s .counters .timer .watchdog .flag)
+
+  pub sounds-sounding : sounds (spelt b s) ≡ sounding s
+  unfolding sounding
+  sounds-sounding = ap₂ _&&_ (runs-running b s) (bitNumber-back (s .tone .on))
+
+  pub tone-waves : toneIsHigh (spelt b s) ≡ wave (s .tone .pitch) (s .counters .toner .count)
+  tone-waves = by (s .tone .pitch) (s .counters .toner .count)
+    where
+      by : (pitch : Pitch) (q : ℕ) → ((eqb (pitchNumber pitch) 4 && leb 4 (q % 8)) || (eqb (pitchNumber pitch) 2 && leb 8 q)) ≡ wave pitch q
+      by FourK q = or-false (leb 4 (q % 8))
+      by TwoK q = refl
 
 -- ---- a nibble by its bits
 

@@ -1,50 +1,52 @@
--- Valid records are exactly those in 01's ranges. Here: a valid one is in them, by the entries of the table of maxima; the
--- other way is in RangesLaws.antt. Assumes nothing.
-use mathlib.Core.Path.{_≡_, refl, sym, subst}
-use mathlib.Core.Bool.{true, false, cond}
+-- Valid records are exactly those in 01's ranges. Here: a valid one is in them, by what right bytes have; the other
+-- way is in RangesLaws.antt. Assumes nothing.
+use mathlib.Core.Path.{_≡_, _∙_, refl, sym, ap, subst}
+use mathlib.Core.Bool.{true, false}
 use mathlib.Core.List.{List}
 use mathlib.Core.Logic.{_⊎_, inl, inr, ⊎-elim}
-use Prim.Native.Nat.{ℕ, zero, suc, _%_, _≤_, _<_}
+use Prim.Native.Nat.{ℕ, zero, suc, _+_, _-_, _%_, _≤_, _<_}
 use native.Mathlib.Omega.{arith}
-use lib.Dec.{T, leb}
-use lib.ListN.{getD}
-use borrow.Author.Tests.{eqb-true, le-leb, eq-eqb, ne-eqb}
+use lib.Dec.{T}
+use lib.ListN.{getD, replicate, getD-replicate}
+use borrow.Author.Tests.{eqb-true, eq-eqb, ne-eqb}
 use Rattle.ground.specs.Values.{agree}
-use Rattle.state.specs.Selections.{sourceRead, isSource, biasRead, isBias, commonsRead, isCommons, pitchRead, isPitch, irqSourceRead, isIrqSource}
-use Rattle.state.specs.Record.{maxima, mostBits, goesWithCs, restRight, byte, valueIn, settingsRight, recordValid}
-use Rattle.state.proofs.RangesLaws.{each-of-5}
-use Rattle.state.proofs.FramesLaws.{FrameHas, frame-has, frame-zeros}
-use Rattle.state.proofs.TripLaws.{RecordHas, valid-has, within}
+use Rattle.ground.proofs.RangesLaws.{upTo-at}
+use Rattle.commands.specs.Numbers.{biasNumber, commonsNumber}
+use Rattle.commands.specs.declared.Bias.{Bias}
+use Rattle.commands.specs.declared.Bias.the-variants.{Half, Third}
+use Rattle.commands.specs.declared.Commons.{Commons}
+use Rattle.commands.specs.declared.Commons.the-variants.{Two, Three, Four}
+use Rattle.phases.specs.Frame.{mostBits, goesWithCs, restRight, valueIn}
+use Rattle.phases.proofs.FrameLaws.{FrameHas, fits-has, frame-zeros}
+use Rattle.settings.specs.Numbers.{pitchNumber}
+use Rattle.settings.specs.declared.Pitch.{Pitch}
+use Rattle.settings.specs.declared.Pitch.the-variants.{FourK, TwoK}
+use Rattle.settings.specs.Bytes.{settingsMaxima, settingsOf}
+use Rattle.settings.proofs.BytesLaws.{settings-has}
+use Rattle.state.specs.Record.{recordValid}
+use Rattle.state.proofs.TripLaws.{RecordHas, valid-has}
+use Rattle.sheet.specs.Bytes.{byte}
 use Rattle.sheet.specs.Ranges.{WellFormed, RangesSheet}
+use Rattle.sheet.proofs.BytesLaws.{spelt, bytes-spelt, value-small}
 use Rattle.sheet.proofs.RangesLaws.{well-formed-valid}
 
 never : {A : Type 0} → false ≡ true → A
 never e = let no : ⊥ = subst T (sym e) tt in absurd no
 
--- ---- what reads to a case is one of a selection's codes
+-- ---- the numbers of a selection's cases
 
-bias-codes : (n : ℕ) → n ≤ 3 → isBias (biasRead n) ≡ true → (n ≡ 2) ⊎ (n ≡ 3)
-unfolding biasRead
-bias-codes zero h e = never e
-bias-codes (suc zero) h e = never e
-bias-codes (suc (suc zero)) h e = inl refl
-bias-codes (suc (suc (suc zero))) h e = inr refl
-bias-codes (suc (suc (suc (suc n)))) h e = let no : ⊥ = omega arith in absurd no
+bias-codes : (bias : Bias) (n : ℕ) → biasNumber bias ≡ n → (n ≡ 2) ⊎ (n ≡ 3)
+bias-codes Half n e = inl (sym e)
+bias-codes Third n e = inr (sym e)
 
-commons-codes : (n : ℕ) → isCommons (commonsRead n) ≡ true → 2 ≤ n
-unfolding commonsRead
-commons-codes zero e = never e
-commons-codes (suc zero) e = never e
-commons-codes (suc (suc n)) e = omega arith
+commons-codes : (commons : Commons) (n : ℕ) → commonsNumber commons ≡ n → 2 ≤ n
+commons-codes Two n e = omega (arith, e)
+commons-codes Three n e = omega (arith, e)
+commons-codes Four n e = omega (arith, e)
 
-pitch-codes : (n : ℕ) → n ≤ 4 → isPitch (pitchRead n) ≡ true → (n ≡ 4) ⊎ (n ≡ 2)
-unfolding pitchRead
-pitch-codes zero h e = never e
-pitch-codes (suc zero) h e = never e
-pitch-codes (suc (suc zero)) h e = inr refl
-pitch-codes (suc (suc (suc zero))) h e = never e
-pitch-codes (suc (suc (suc (suc zero)))) h e = inl refl
-pitch-codes (suc (suc (suc (suc (suc n))))) h e = let no : ⊥ = omega arith in absurd no
+pitch-codes : (pitch : Pitch) (n : ℕ) → pitchNumber pitch ≡ n → (n ≡ 4) ⊎ (n ≡ 2)
+pitch-codes FourK n e = inl (sym e)
+pitch-codes TwoK n e = inr (sym e)
 
 -- ---- which bytes of a frame go together
 
@@ -68,11 +70,15 @@ module _ (bytes : List ℕ) (valid : recordValid bytes ≡ true) where
   has : RecordHas bytes
   has = valid-has bytes valid
 
-  at-most : (i : ℕ) → i < 64 → byte bytes i ≤ getD maxima i 0
-  at-most = within bytes has
-
   frame : FrameHas (byte bytes 32) (byte bytes 33) (byte bytes 34) (valueIn bytes) (byte bytes 37) (byte bytes 38) (byte bytes 39)
-  frame = frame-has _ _ _ _ _ _ _ (has .frame)
+  frame = fits-has bytes (has .frame)
+
+  at-most : (i : ℕ) → i < 24 → byte bytes (40 + i) ≤ getD settingsMaxima i 0
+  at-most = settings-has bytes (has .long) (has .settings) .within
+
+  nibble-at : (i : ℕ) → i ≤ 31 → byte bytes i ≤ 15
+  nibble-at i h =
+      rw (getD-replicate {A = ℕ} 32 i 15 0 (omega arith)) at (upTo-at bytes (replicate 32 15) i (has .memory) (omega (arith, has .long)) (omega arith))
 
   bits-in : (code : ℕ) → byte bytes 33 ≡ code → byte bytes 34 ≤ getD mostBits code 0
   bits-in code e = rw e at (frame .most)
@@ -80,45 +86,46 @@ module _ (bytes : List ℕ) (valid : recordValid bytes ≡ true) where
   none-in : (code : ℕ) → getD mostBits code 0 ≡ 0 → byte bytes 33 ≡ code → byte bytes 34 ≡ 0
   none-in code most e = omega (arith, most, bits-in code e)
 
+  -- what the settings are written as, of which the last six bytes are zero
+  said : (i : ℕ) → byte (spelt bytes (settingsOf bytes)) i ≡ byte bytes i
+  said i = ap (λ (l : List ℕ). byte l i) (sym (bytes-spelt bytes valid))
+
   last-zero : (i : ℕ) → 58 ≤ i → i ≤ 63 → byte bytes i ≡ 0
   last-zero i h k =
-      let limit : getD maxima i 0 ≡ 0 =
-      rw (le-leb 58 i h) at (agree (λ (j : ℕ). cond (leb 58 j) (getD maxima j 0) 0) (λ (j : ℕ). 0) 64 refl i (omega arith)) in
-      omega (arith, limit, at-most i (omega arith))
+      let at : 58 + (i - 58) ≡ i = omega arith in
+      sym (said i) ∙ ap (λ (n : ℕ). byte (spelt bytes (settingsOf bytes)) n) (sym at)
+      ∙ agree (λ (j : ℕ). byte (spelt bytes (settingsOf bytes)) (58 + j)) (λ (j : ℕ). 0) 6 refl (i - 58) (omega arith)
 
   well-formed : WellFormed bytes
-  unfolding settingsRight
   well-formed =
-      let selected = each-of-5 (isSource (sourceRead (byte bytes 41))) (isBias (biasRead (byte bytes 43))) (isCommons (commonsRead (byte bytes 44)))
-      (isPitch (pitchRead (byte bytes 46))) (isIrqSource (irqSourceRead (byte bytes 50))) (has .settings) in
       record {
         size = has .long;
-        memory = λ i h. rw (agree (λ (k : ℕ). getD maxima k 0) (λ (k : ℕ). 15) 32 refl i (omega arith)) at (at-most i (omega arith));
-        lines = at-most 32 (omega arith);
-        phase = at-most 33 (omega arith);
-        valueLow = at-most 35 (omega arith);
-        valueHigh = at-most 36 (omega arith);
-        address = at-most 37 (omega arith);
-        position = at-most 38 (omega arith);
-        line = at-most 39 (omega arith);
-        system = at-most 40 (omega arith);
-        source = at-most 41 (omega arith);
-        lcd = at-most 42 (omega arith);
-        bias = bias-codes (byte bytes 43) (at-most 43 (omega arith)) (selected .1);
-        commons = (commons-codes (byte bytes 44) (selected .2), at-most 44 (omega arith));
-        tone = at-most 45 (omega arith);
-        pitch = pitch-codes (byte bytes 46) (at-most 46 (omega arith)) (selected .3);
-        irqOutput = at-most 47 (omega arith);
-        rate = at-most 48 (omega arith);
-        timeBase = at-most 49 (omega arith);
-        irqSource = at-most 50 (omega arith);
-        flag = at-most 51 (omega arith);
-        p = at-most 52 (omega arith);
-        q = at-most 53 (omega arith);
-        d = at-most 54 (omega arith);
-        b = at-most 55 (omega arith);
-        w = at-most 56 (omega arith);
-        test = at-most 57 (omega arith);
+        memory = nibble-at;
+        lines = frame .lines-low;
+        phase = frame .phase;
+        valueLow = omega (arith, value-small bytes valid);
+        valueHigh = omega (arith, value-small bytes valid);
+        address = omega (arith, frame .near);
+        position = frame .one-of-4;
+        line = frame .data-low;
+        system = at-most 0 (omega arith);
+        source = at-most 1 (omega arith);
+        lcd = at-most 2 (omega arith);
+        bias = bias-codes (settingsOf bytes .lcd .bias) _ (said 43);
+        commons = (commons-codes (settingsOf bytes .lcd .commons) _ (said 44), at-most 4 (omega arith));
+        tone = at-most 5 (omega arith);
+        pitch = pitch-codes (settingsOf bytes .tone .pitch) _ (said 46);
+        irqOutput = at-most 7 (omega arith);
+        rate = at-most 8 (omega arith);
+        timeBase = at-most 9 (omega arith);
+        irqSource = at-most 10 (omega arith);
+        flag = at-most 11 (omega arith);
+        p = at-most 12 (omega arith);
+        q = at-most 13 (omega arith);
+        d = at-most 14 (omega arith);
+        b = at-most 15 (omega arith);
+        w = at-most 16 (omega arith);
+        test = at-most 17 (omega arith);
         zeros = last-zero;
         noFrame = no-frame (byte bytes 32) (byte bytes 33) (frame .cs);
         someFrame = some-frame (byte bytes 32) (byte bytes 33) (frame .cs);

@@ -1,6 +1,5 @@
--- A record in 01's ranges is valid: each range meets its entry in the table of maxima, and what goes together is right phase
--- by phase. Assumes nothing.
-use mathlib.Core.Path.{_≡_, _∙_, refl, sym}
+-- A record in 01's ranges is valid: each range meets its test, and what goes together is right phase by phase. Assumes nothing.
+use mathlib.Core.Path.{_≡_, refl}
 use mathlib.Core.Bool.{Bool, true, false, cond, not, _&&_, _||_}
 use mathlib.Core.List.{List, [], _∷_}
 use mathlib.Core.Logic.{_⊎_, inl, inr, ⊎-elim}
@@ -11,37 +10,39 @@ use lib.Dec.{leb, eqb}
 use lib.ListN.{length, getD, drop, replicate, getD-replicate, drop-of-length-le}
 use borrow.Author.Tests.{eqb-true, eqb-false, le-leb, lt-ltb, eq-eqb, ne-eqb}
 use Rattle.ground.specs.Values.{agree}
-use Rattle.state.specs.Selections.{sourceRead, isSource, biasRead, isBias, commonsRead, isCommons, pitchRead, isPitch, irqSourceRead, isIrqSource}
-use Rattle.state.specs.Record.{upTo, maxima, mostBits, goesWithCs, bitsRight, restRight, frameRight, byte, framesRight, settingsRight, recordValid}
-use Rattle.state.proofs.RangesLaws.{and-both}
-use Rattle.state.proofs.RecordLaws.{most-small, upTo-parts}
-use Rattle.state.proofs.TripLaws.{gathered}
+use Rattle.ground.specs.Codes.{isCode}
+use Rattle.ground.specs.Ranges.{upTo}
+use Rattle.ground.proofs.ChoiceLaws.{and-both}
+use Rattle.ground.proofs.WrittenLaws.{gathered}
+use Rattle.clock.specs.Numbers.{sourceNumber}
+use Rattle.commands.specs.Numbers.{biasNumber, commonsNumber}
+use Rattle.phases.specs.Frame.{inRange, goesWithCs, mostBits, bitsRight, restRight, frameRight, frameFits}
+use Rattle.settings.specs.Numbers.{pitchNumber, irqSourceNumber}
+use Rattle.settings.specs.Selections.{sources, biases, commonses, pitches, irqSources}
+use Rattle.settings.specs.Bytes.{settingsMaxima, settingsRight}
+use Rattle.state.specs.Record.{memoryFits, recordValid}
+use Rattle.sheet.specs.Bytes.{byte}
 use Rattle.sheet.specs.Ranges.{WellFormed}
 
--- ---- a selection's codes read to a case
+-- ---- each number that a selection can have is the code of a case
 
-bias-right : (n : ℕ) → (n ≡ 2) ⊎ (n ≡ 3) → isBias (biasRead n) ≡ true
-unfolding biasRead
+bias-right : (n : ℕ) → (n ≡ 2) ⊎ (n ≡ 3) → isCode biasNumber biases n ≡ true
 bias-right n (inl e) = rw e
 bias-right n (inr e) = rw e
 
-pitch-right : (n : ℕ) → (n ≡ 4) ⊎ (n ≡ 2) → isPitch (pitchRead n) ≡ true
-unfolding pitchRead
+pitch-right : (n : ℕ) → (n ≡ 4) ⊎ (n ≡ 2) → isCode pitchNumber pitches n ≡ true
 pitch-right n (inl e) = rw e
 pitch-right n (inr e) = rw e
 
-source-right : (n : ℕ) → n ≤ 2 → isSource (sourceRead n) ≡ true
-unfolding sourceRead
-source-right n h = agree (λ (k : ℕ). isSource (sourceRead k)) (λ (k : ℕ). true) 3 refl n (omega arith)
+source-right : (n : ℕ) → n ≤ 2 → isCode sourceNumber sources n ≡ true
+source-right n h = agree (λ (k : ℕ). isCode sourceNumber sources k) (λ (k : ℕ). true) 3 refl n (omega arith)
 
-irqSource-right : (n : ℕ) → n ≤ 2 → isIrqSource (irqSourceRead n) ≡ true
-unfolding irqSourceRead
-irqSource-right n h = agree (λ (k : ℕ). isIrqSource (irqSourceRead k)) (λ (k : ℕ). true) 3 refl n (omega arith)
+irqSource-right : (n : ℕ) → n ≤ 2 → isCode irqSourceNumber irqSources n ≡ true
+irqSource-right n h = agree (λ (k : ℕ). isCode irqSourceNumber irqSources k) (λ (k : ℕ). true) 3 refl n (omega arith)
 
-commons-right : (n : ℕ) → 2 ≤ n → n ≤ 4 → isCommons (commonsRead n) ≡ true
-unfolding commonsRead
+commons-right : (n : ℕ) → 2 ≤ n → n ≤ 4 → isCode commonsNumber commonses n ≡ true
 commons-right n h k =
-    rw (le-leb 2 n h) at (agree (λ (k : ℕ). cond (leb 2 k) (isCommons (commonsRead k)) true) (λ (k : ℕ). true) 5 refl n (omega arith))
+    rw (le-leb 2 n h) at (agree (λ (k : ℕ). cond (leb 2 k) (isCode commonsNumber commonses k) true) (λ (k : ℕ). true) 5 refl n (omega arith))
 
 -- ---- bytes at most their maxima, one by one
 
@@ -70,26 +71,18 @@ module _ (bytes : List ℕ) (r : WellFormed bytes) where
   most : byte bytes 34 ≤ getD mostBits (byte bytes 33) 0
   most = most-in (byte bytes 33) refl (r .phase)
 
-  memory-fits : upTo bytes (replicate 32 15) ≡ true
+  memory-fits : memoryFits bytes ≡ true
   memory-fits = each-upTo bytes (replicate 32 15) (λ i h. rw (getD-replicate {A = ℕ} 32 i 15 0 h) (r .memory i (omega (arith, h))))
 
   last : (i : ℕ) → 58 ≤ i → i ≤ 63 → leb (byte bytes i) 0 ≡ true
   last i h k = le-leb (byte bytes i) 0 (omega (arith, r .zeros i h k))
 
-  tail-fits : upTo (drop 32 bytes) (drop 32 maxima) ≡ true
+  settings-fit : upTo (drop 40 bytes) settingsMaxima ≡ true
   unfolding upTo
-  tail-fits =
+  settings-fit =
       rw (
-        gathered 32 32 bytes (omega (arith, r .size)),
+        gathered 24 40 bytes (omega (arith, r .size)),
         drop-of-length-le bytes {i = 64} (omega (arith, r .size)),
-        le-leb (byte bytes 32) 15 (r .lines),
-        le-leb (byte bytes 33) 7 (r .phase),
-        le-leb (byte bytes 34) 8 (omega (arith, most, most-small (byte bytes 33))),
-        le-leb (byte bytes 35) 255 (r .valueLow),
-        le-leb (byte bytes 36) 255 (r .valueHigh),
-        le-leb (byte bytes 37) 31 (r .address),
-        le-leb (byte bytes 38) 3 (r .position),
-        le-leb (byte bytes 39) 2 (r .line),
         le-leb (byte bytes 40) 1 (r .system),
         le-leb (byte bytes 41) 2 (r .source),
         le-leb (byte bytes 42) 1 (r .lcd),
@@ -139,14 +132,26 @@ module _ (bytes : List ℕ) (r : WellFormed bytes) where
           let zeros = r .rest (eqb-false _ _ e) (eqb-false _ _ f) in
           rw (eq-eqb _ _ (zeros .0), eq-eqb _ _ (zeros .1), eq-eqb _ _ (zeros .2))
 
-  frame-right : framesRight bytes ≡ true
-  unfolding frameRight bitsRight
-  frame-right = rw (cs-right, le-leb _ _ most, lt-ltb _ _ (r .value), rest-right)
+  frame-fits : frameFits bytes ≡ true
+  unfolding frameRight inRange bitsRight
+  frame-fits =
+      rw (
+        le-leb (byte bytes 32) 15 (r .lines),
+        lt-ltb (byte bytes 37) 32 (omega (arith, r .address)),
+        le-leb (byte bytes 38) 3 (r .position),
+        le-leb (byte bytes 39) 2 (r .line),
+        cs-right,
+        le-leb (byte bytes 33) 7 (r .phase),
+        le-leb _ _ most,
+        lt-ltb _ _ (r .value),
+        rest-right,
+      )
 
   settings-right : settingsRight bytes ≡ true
   unfolding settingsRight
   settings-right =
       rw (
+        settings-fit,
         source-right (byte bytes 41) (r .source),
         bias-right (byte bytes 43) (r .bias),
         commons-right (byte bytes 44) (r .commons .0) (r .commons .1),
@@ -156,6 +161,4 @@ module _ (bytes : List ℕ) (r : WellFormed bytes) where
 
   pub well-formed-valid : recordValid bytes ≡ true
   unfolding recordValid
-  well-formed-valid =
-      let fits : upTo bytes maxima ≡ true = sym (upTo-parts bytes true (sym memory-fits)) ∙ tail-fits in
-      rw (eq-eqb _ _ (r .size), fits, frame-right, settings-right)
+  well-formed-valid = rw (eq-eqb _ _ (r .size), memory-fits, frame-fits, settings-right)

@@ -20,11 +20,11 @@ use Rattle.lines.specs.declared.Edge.the-variants as edges
 use Rattle.lines.specs.Samples.{levels, clocked, edge}
 use Rattle.frames.specs.Frames.{frame, framed, closed}
 use Rattle.phases.specs.Phases.{unfinished}
+use Rattle.phases.specs.Frame.{goesWithCs, phaseRead}
 use Rattle.phases.specs.Valid.{FrameValid}
-use Rattle.state.specs.Record.{goesWithCs, recordValid, chipOf}
-use Rattle.state.specs.FrameCodes.{phaseRead}
+use Rattle.phases.proofs.FrameLaws.{fits-has}
+use Rattle.state.specs.Record.{recordValid, chipOf}
 use Rattle.state.proofs.ChipLaws.{valid-chip}
-use Rattle.state.proofs.FramesLaws.{frame-has}
 use Rattle.state.proofs.TripLaws.{valid-has}
 use Rattle.simulator.specs.Simulator.{answerCode, stepReturns, stepBytes}
 use Rattle.sheet.specs.Bytes.{byte}
@@ -55,7 +55,7 @@ module _ (b : List ℕ) (valid : recordValid b ≡ true) (s : ℕ) (small : s �
 
   cs-said : eqb (byte b 32 % 2) 1 ≡ eqb (byte b 33) 0
   unfolding goesWithCs
-  cs-said = same-test _ _ (frame-has _ _ _ _ _ _ _ (valid-has b valid .frame) .cs)
+  cs-said = same-test _ _ (fits-has b (valid-has b valid .frame) .cs)
 
   -- an edge that leaves the frame
   stays : (answer : Answer) (sort : Edge) (returned : ℕ) → edge (chipOf b .port .levels) (levels s) ≡ sort

@@ -4,19 +4,20 @@ use mathlib.Core.Path.{_≡_, _∙_, refl, sym, ap}
 use mathlib.Core.Bool.{Bool, true, false, not, _&&_}
 use mathlib.Core.List.{List, _∷_, _++_, append-assoc}
 use Prim.Native.Nat.{ℕ, _%_, _≤_}
-use lib.ListN.{getD, take, replicate, length, drop, set}
+use lib.ListN.{getD, take, length, drop, set}
 use lib.Seq.{set-at}
 use borrow.Author.Tests.{le-ltb}
 use Rattle.ground.specs.Bits.{bitAt}
 use Rattle.settings.specs.declared.Settings.{Settings}
+use Rattle.settings.specs.Bytes.{settingsBytes}
 use Rattle.phases.specs.declared.Phase.{Phase}
 use Rattle.phases.specs.declared.Line.{Line}
 use Rattle.frames.specs.declared.Framed.{Framed}
-use Rattle.frames.specs.declared.Upshot.{Upshot}
 use Rattle.frames.specs.declared.Upshot.the-variants.{Answered}
 use Rattle.answers.specs.declared.Answer.{Answer}
 use Rattle.lines.specs.declared.Edge.{Edge}
-use Rattle.lines.specs.Samples.{levels, edge, clocked}
+use Rattle.lines.specs.Samples.{levels, levelsNumber, edge, clocked}
+use Rattle.lines.proofs.SamplesLaws.{levels-again}
 use Rattle.frames.specs.Frames.{frame, framed}
 use Rattle.phases.specs.Phases.{address}
 use Rattle.chip.specs.declared.Chip.{Chip}
@@ -24,16 +25,15 @@ use Rattle.chip.specs.declared.Stepped.{Stepped}
 use Rattle.port.specs.Port.{memoryAfter, framedBy, movedAs, moved}
 use Rattle.chip.specs.Chip.{told, settingsAfter, steppedAs, steppedTo, stepped}
 use Rattle.chip.proofs.ValidLaws.{stepped-valid}
-use Rattle.lines.specs.Samples.{levelsNumber}
-use Rattle.state.specs.Record.{recordValid, frameBytes, settingsBytes, tailOf, recordOf, chipOf}
-use Rattle.state.proofs.BytesLaws.{byte-past, port-bytes, settings-bytes}
+use Rattle.state.specs.Record.{portBytes, recordValid, tailOf, recordOf, chipOf}
+use Rattle.state.proofs.BytesLaws.{byte-past, port-bytes}
 use Rattle.state.proofs.TripLaws.{trip}
 use Rattle.state.proofs.ChipLaws.{valid-chip}
-use Rattle.state.proofs.CodesLaws.{lines-again}
 use Rattle.simulator.specs.Simulator.{answerCode, stepReturns, stepBytes}
 use Rattle.sheet.specs.Bytes.{byte}
 use Rattle.sheet.specs.Frames.{OnlyLevels, Leaves, Stores}
 use Rattle.sheet.specs.Samples.{rises, falls}
+use Rattle.sheet.proofs.BytesLaws.{settings-said}
 use Rattle.sheet.proofs.FramesLaws.{frameLeft}
 
 -- a fall the other way round
@@ -51,9 +51,6 @@ module _ (b : List ℕ) (valid : recordValid b ≡ true) where
   unfolding chipOf
   size = valid-chip b valid .port .size
 
-  rest-same : drop 40 b ≡ settingsBytes (c .settings) ++ replicate 6 0
-  rest-same = ap (drop 40) (sym (trip b valid)) ∙ settings-bytes c (valid-chip b valid .port .size)
-
   module _ (s : ℕ) (small : s ≤ 15) where
     -- ---- what a step makes of the frame is what it makes of the record
 
@@ -65,14 +62,14 @@ module _ (b : List ℕ) (valid : recordValid b ≡ true) where
         → recordOf (new phase line memory) ≡ memory ++ s ∷ frameLeft phase line ++ drop 40 b
     unfolding recordOf tailOf
     written memory phase line =
-        ap (λ (n : ℕ). memory ++ (n ∷ frameLeft phase line ++ (settingsBytes (c .settings) ++ replicate 6 0))) (lines-again s small)
-        ∙ ap (λ (l : List ℕ). memory ++ (s ∷ frameLeft phase line ++ l)) (sym rest-same)
+        ap (λ (n : ℕ). memory ++ (n ∷ frameLeft phase line ++ settingsBytes (c .settings))) (levels-again s small)
+        ∙ ap (λ (l : List ℕ). memory ++ (s ∷ frameLeft phase line ++ l)) (sym (settings-said b valid))
         ∙ sym (append-assoc memory (s ∷ frameLeft phase line) (drop 40 b))
 
     levels-written : recordOf (new (c .port .phase) (c .port .line) (take 32 b)) ≡ set b 32 s
     unfolding chipOf recordOf tailOf
     levels-written =
-        ap (λ (n : ℕ). take 32 b ++ n ∷ drop 1 (tailOf c)) (lines-again s small)
+        ap (λ (n : ℕ). take 32 b ++ n ∷ drop 1 (tailOf c)) (levels-again s small)
         ∙ sym (set-at (take 32 b) (levelsNumber (levels (byte b 32))) (drop 1 (tailOf c)) s 32 size)
         ∙ ap (λ (l : List ℕ). set l 32 s) (trip b valid)
 
@@ -119,9 +116,9 @@ module _ (b : List ℕ) (valid : recordValid b ≡ true) where
       port-left keep =
           ap (take 40) step-leaves
           ∙ port-bytes (stepped c s .chip) (stepped-valid c s (valid-chip b valid) .port .size)
-          ∙ ap (λ (r : Stepped). r .chip .port .memory ++ frameBytes (r .chip .port)) stepped-is
+          ∙ ap (λ (r : Stepped). portBytes (r .chip .port)) stepped-is
           ∙ ap (λ (m : List ℕ). m ++ levelsNumber (levels s) ∷ frameLeft (f .phase) (f .line)) keep
-          ∙ ap (λ (n : ℕ). take 32 b ++ n ∷ frameLeft (f .phase) (f .line)) (lines-again s small)
+          ∙ ap (λ (n : ℕ). take 32 b ++ n ∷ frameLeft (f .phase) (f .line)) (levels-again s small)
 
     -- a frame that stays as it was
     pub only : (answer : Answer) (returned : ℕ) → framedBy (c .port) (levels s) ≡ framed (c .port .phase) (c .port .line) (Answered answer)
@@ -139,7 +136,7 @@ module _ (b : List ℕ) (valid : recordValid b ≡ true) where
         ap (λ (l : List ℕ). byte l 32) step-leaves
         ∙ byte-past (stepped c s .chip) (stepped-valid c s (valid-chip b valid) .port .size) 0
         ∙ ap (λ (r : Stepped). levelsNumber (r .chip .port .levels)) (stepped-is (framedBy (c .port) (levels s)) refl)
-        ∙ lines-again s small
+        ∙ levels-again s small
 
     -- ---- what a sample is to the frame
 

@@ -4,12 +4,13 @@ use mathlib.Core.Bool.{true}
 use mathlib.Core.List.{List}
 use Prim.Native.Nat.{ℕ, suc}
 use native.Mathlib.Numerals.{add-one}
+use Rattle.settings.specs.Bytes.{settingsOf}
 use Rattle.ticks.specs.Ticks as ticks
 use Rattle.chip.specs.declared.Chip.{Chip}
 use Rattle.chip.specs.Chip.{advanced}
 use Rattle.chip.specs.Valid.{Valid}
 use Rattle.chip.proofs.ValidLaws.{advanced-valid}
-use Rattle.state.specs.Record.{settingsOf, recordValid, recordOf, chipOf}
+use Rattle.state.specs.Record.{recordValid, recordOf, chipOf}
 use Rattle.state.proofs.ChipLaws.{valid-chip, chip-valid, chip-again}
 use Rattle.simulator.specs.Simulator.{advanceReturns, advanceBytes}
 use Rattle.sheet.specs.Ticks.{tick, Ticks, TicksSheet}

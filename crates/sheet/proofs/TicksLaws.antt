@@ -5,6 +5,7 @@ use mathlib.Core.List.{List}
 use Prim.Native.Nat.{ℕ, _+_, _%_}
 use lib.Dec.{eqb}
 use lib.ListN.{set}
+use Rattle.ground.proofs.BitsLaws.{bitNumber-back}
 use Rattle.clock.specs.declared.Source.{Source}
 use Rattle.clock.specs.declared.Source.the-variants.{Xtal, Rc, Ext}
 use Rattle.clock.specs.declared.Watchdog.{Watchdog}
@@ -14,7 +15,6 @@ use Rattle.settings.specs.declared.Settings.{Settings}
 use Rattle.clock.specs.Numbers.{sourceNumber}
 use Rattle.settings.specs.Settings.{timerTo, countersTo}
 use Rattle.ticks.specs.Ticks.{running, ticked}
-use Rattle.state.proofs.CodesLaws.{bitNumber-back}
 use Rattle.sheet.specs.Ticks.{wSteps, bSteps, dSteps, baseTick, clockTick, tick}
 use Rattle.sheet.proofs.BytesLaws.{spelt, runs-running}
 

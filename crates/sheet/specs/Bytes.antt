@@ -3,7 +3,7 @@ use mathlib.Core.Bool.{Bool, _||_}
 use mathlib.Core.List.{List}
 use Prim.Native.Nat.{ℕ}
 use lib.Dec.{eqb}
-pub use Rattle.state.specs.Record.{byte}
+pub use Rattle.ground.specs.Written.{byte}
 
 -- 01 "Ticks": running is the system on, byte 40, or EXT selected, byte 41.
 abbrev pub runs : List ℕ → Bool

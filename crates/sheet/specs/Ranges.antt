@@ -7,7 +7,8 @@ use mathlib.Core.List.{List}
 use mathlib.Core.Logic.{_⊎_}
 use Prim.Native.Nat.{ℕ, _+_, _*_, _%_, _^_, _≤_, _<_}
 use lib.ListN.{length}
-use Rattle.state.specs.Record.{byte, recordValid}
+use Rattle.state.specs.Record.{recordValid}
+use Rattle.sheet.specs.Bytes.{byte}
 
 pub record WellFormed (bytes : List ℕ) : Type 0 where
   pub size : length bytes ≡ 64

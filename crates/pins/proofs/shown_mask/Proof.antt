@@ -33,27 +33,36 @@ enum-told-3 c = search needs
 returns-3 : tie.Need-returns-3
 unfolding shownNibble shows
 returns-3 c =
+    let midway = c .before .before .before .before .before in
+    let at-running = midway .before in
+    let entry = at-running .before in
     simp (
-      sym (c .before .before .before .before .before .before .running .ensures) ∙ not-false _ (c .before .before .before .before .before .if1 .left),
-      not-false (c .before .before .before .before .before .before .before .args .settings .lcd .on) (c .before .before .if2 .left),
+      sym (at-running .running .ensures) ∙ not-false _ (midway .if1 .left),
+      not-false (entry .args .settings .lcd .on) (c .before .before .if2 .left),
       c .enum-told .given .1,
     )
 
 returns-4 : tie.Need-returns-4
 unfolding shownNibble shows
 returns-4 c =
+    let midway = c .before .before .before .before .before in
+    let at-running = midway .before in
+    let entry = at-running .before in
     simp (
-      sym (c .before .before .before .before .before .before .running .ensures) ∙ not-false _ (c .before .before .before .before .before .if1 .left),
-      not-false (c .before .before .before .before .before .before .before .args .settings .lcd .on) (c .before .before .if2 .left),
+      sym (at-running .running .ensures) ∙ not-false _ (midway .if1 .left),
+      not-false (entry .args .settings .lcd .on) (c .before .before .if2 .left),
       c .enum-told2 .given .1,
     )
 
 returns-5 : tie.Need-returns-5
 unfolding shownNibble shows
 returns-5 c =
+    let midway = c .before .before .before .before .before in
+    let at-running = midway .before in
+    let entry = at-running .before in
     simp (
-      sym (c .before .before .before .before .before .before .running .ensures) ∙ not-false _ (c .before .before .before .before .before .if1 .left),
-      not-false (c .before .before .before .before .before .before .before .args .settings .lcd .on) (c .before .before .if2 .left),
+      sym (at-running .running .ensures) ∙ not-false _ (midway .if1 .left),
+      not-false (entry .args .settings .lcd .on) (c .before .before .if2 .left),
       c .enum-told3 .given .1,
     )
 

@@ -39,10 +39,12 @@ fresh-requires c κs = search needs
 returns-3 : tie.Need-returns-3
 unfolding poweredOn
 returns-3 c =
+    let midway = c .before .before .before .before .before in
+    let entry = midway .before in
     simp (
       c .fresh .ensures,
       c .before .memory-from .ensures,
-      memoryFrom-all (c .before .before .before .before .before .before .args .memory .now) (c .before .before .before .before .if1 .left),
+      memoryFrom-all (entry .args .memory .now) (c .before .before .before .before .if1 .left),
       eq-eqb _ _ (c .before .before .before .before .if1 .left),
       sym (c .before .before .before .first-above .ensures),
       le-ltb _ _ (c .before .before .if2 .left),

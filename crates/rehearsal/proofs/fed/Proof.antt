@@ -41,8 +41,9 @@ loop-less c = omega (arith, ltb-true)
 
 loop-again : tie.Need-loop-again Inv-loop μ-loop
 loop-again c =
-    let l = c .before .before .before .before .before .loop in
-    let g = c .before .before .before .before .before .before .before .args in (
+    let midway : _ = c .before .before .before .before .before in
+    let l : _ = midway .loop in
+    let g : _ = midway .before .before .args in (
       omega (arith, ltb-true),
       rw (c .advance .ensures, c .before .step .ensures)
           (sym (feed-next (l .now) (g .samples .now) (g .stop) (g .pause) (l .i) (omega arith) (omega (arith, ltb-true))) ∙ l .inv .1),

@@ -14,10 +14,17 @@ enum-known-answer : tie.Need-enum-known-answer
 enum-known-answer c = search needs
 
 slice-reshare-prefix-fed : tie.Need-slice-reshare-prefix-fed
-slice-reshare-prefix-fed c = count-fits (c .before .before .before .before .before .before .before .before .before .args .first) (c .before .before .before .before .before .before .before .before .before .args .nibbles .now) (c .before .before .before .before .before .write .ensures) (c .before .answer .given .1)
+slice-reshare-prefix-fed c =
+    let midway = c .before .before .before .before .before in
+    let entry = midway .before .before .before .before in
+    count-fits (entry .args .first) (entry .args .nibbles .now) (midway .write .ensures) (c .before .answer .given .1)
 
 slice-aggregate-fed : tie.Need-slice-aggregate-fed
-slice-aggregate-fed c = sym (length-take-le _ _ (count-fits (c .before .before .before .before .before .before .before .before .before .before .args .first) (c .before .before .before .before .before .before .before .before .before .before .args .nibbles .now) (c .before .before .before .before .before .before .write .ensures) (c .before .before .answer .given .1)))
+slice-aggregate-fed c =
+    let midway = c .before .before .before .before .before in
+    let at-write = midway .before in
+    let entry = at-write .before .before .before .before in
+    sym (length-take-le _ _ (count-fits (entry .args .first) (entry .args .nibbles .now) (at-write .write .ensures) (c .before .before .answer .given .1)))
 
 fed-requires : tie.Need-fed-requires
 fed-requires c κs = search needs
@@ -29,13 +36,20 @@ same-length : tie.Need-same-length
 same-length c = search needs
 
 returns : tie.Need-returns
-returns c = rehearses (c .before .before .before .before .before .before .before .before .before .before .before .args .first) (c .before .before .before .before .before .before .before .before .before .before .before .args .nibbles .now) (c .before .before .before .before .before .before .before .write .ensures) (c .before .before .before .answer .given .1) (c .fed .ensures)
+returns c =
+    let midway = c .before .before .before .before .before in
+    let at-write = midway .before .before in
+    let entry = at-write .before .before .before .before in
+    rehearses (entry .args .first) (entry .args .nibbles .now) (at-write .write .ensures) (c .before .before .before .answer .given .1) (c .fed .ensures)
 
 same-length-2 : tie.Need-same-length-2
 same-length-2 c = search needs
 
 returns-2 : tie.Need-returns-2
-returns-2 c = refuses (c .before .before .before .before .before .before .before .before .args .first) (c .before .before .before .before .before .before .before .before .args .nibbles .now) (c .before .before .before .before .write .ensures) (c .enum-told .given .1)
+returns-2 c =
+    let midway = c .before .before .before .before .before in
+    let entry = midway .before .before .before in
+    refuses (entry .args .first) (entry .args .nibbles .now) (c .before .before .before .before .write .ensures) (c .enum-told .given .1)
 
 pub rehearse-spec : {M : Type 1} → statement M
 rehearse-spec =

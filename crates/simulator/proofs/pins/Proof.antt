@@ -52,6 +52,8 @@ show-requires c κs =
 
 shared-slice-read-pins-code : tie.Need-shared-slice-read-pins-code
 shared-slice-read-pins-code c =
+    let midway = c .before .before .before .before .before in
+    let at-before = midway .before .before in
     let told = c .before .before .before .before .before .before .before .before in
     let read = told .before .before in
     let start = read .before .before .before .args in

@@ -81,7 +81,8 @@ loop-again c =
     let called = c .before .before in
     let turn = called .before .before .before .before in
     let headed = turn .before .before .before in
-    let tested = headed .before .before .before .before .before .before in
+    let on-tested = headed .before .before .before .before .before in
+    let tested = on-tested .before in
     let code = getD (tested .before .before .before .before .args .codes .now) (turn .loop .i) 0 in
     let bits = command-bits code (omega (arith, called .before .shared-slice-known2 .given (turn .loop .i))) in
     sending-more commands-by-items (turn .loop .inv) (omega arith) (rw bits at (called .put-nine .ensures))
@@ -93,7 +94,8 @@ add-given : tie.Need-add-given Inv-loop μ-loop
 add-given c =
     let ended = c .before in
     let headed = ended .before .before .before in
-    let tested = headed .before .before .before .before .before .before in
+    let on-tested = headed .before .before .before .before .before in
+    let tested = on-tested .before in
     omega (arith, sending-end commands-by-items (ended .loop .inv) (omega arith), writing-same (ended .loop .inv .writing), tested .before .before .before .before .good)
 
 same-length : tie.Need-same-length Inv-loop μ-loop

@@ -57,7 +57,8 @@ nibble-of-requires c κs = search needs
 
 slice-write-out : tie.Need-slice-write-out Inv-loop μ-loop
 slice-write-out c =
-    let turn = c .before .before .before .before .before .before in omega (arith, writing-same (turn .loop .inv .1))
+    let on-turn = c .before .before .before .before .before in
+    let turn = on-turn .before in omega (arith, writing-same (turn .loop .inv .1))
 
 add-at : tie.Need-add-at Inv-loop μ-loop
 add-at c = search needs
@@ -67,7 +68,8 @@ loop-less c = search needs
 
 loop-again : tie.Need-loop-again Inv-loop μ-loop
 loop-again c =
-    let turn = c .before .before .before .before .before .before in
+    let on-turn = c .before .before .before .before .before in
+    let turn = on-turn .before in
     let noted = turn .before .before .before .before .args .noted .now in
     let at = turn .loop .at in
     let nibble = c .nibble-of .result in

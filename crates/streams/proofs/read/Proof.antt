@@ -96,7 +96,8 @@ add-asked : tie.Need-add-asked Inv-loop μ-loop
 add-asked c =
     let ended = c .before in
     let headed = ended .before .before .before in
-    let tested = headed .before .before .before .before .before .before in
+    let on-tested = headed .before .before .before .before .before in
+    let tested = on-tested .before in
     omega (arith, writing-room 15 (ended .loop .inv) (reads-end (ended .loop .todo) (omega arith)), writing-same (ended .loop .inv), tested .before .before .before .good)
 
 same-length : tie.Need-same-length Inv-loop μ-loop

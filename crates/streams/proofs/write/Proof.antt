@@ -89,7 +89,8 @@ add-sent : tie.Need-add-sent Inv-loop μ-loop
 add-sent c =
     let ended = c .before in
     let headed = ended .before .before .before in
-    let tested = headed .before .before .before .before .before .before in
+    let on-tested = headed .before .before .before .before .before in
+    let tested = on-tested .before in
     omega (arith, sending-end nibbles-by-items (ended .loop .inv) (omega arith), writing-same (ended .loop .inv .writing), tested .before .before .before .before .good)
 
 same-length : tie.Need-same-length Inv-loop μ-loop

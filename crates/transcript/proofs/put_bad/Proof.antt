@@ -18,7 +18,8 @@ same-length c = search needs
 
 returns : tie.Need-returns
 returns c =
-    let at-put-bytes : _ = c .before .before .before .before .before .before in
+    let on-at-put-bytes : _ = c .before .before .before .before .before in
+    let at-put-bytes : _ = on-at-put-bytes .before in
     let entry : _ = at-put-bytes .before .before .before .before in
     bad-wrote (entry .args .offset) (at-put-bytes .put-bytes .ensures) (c .before .before .put-field .ensures)
     (entry .pre .1)

@@ -18,7 +18,10 @@ put-field-requires c κs = search needs
 
 put-field-requires-2 : tie.Need-put-field-requires-2
 put-field-requires-2 c κs =
-    let entry : _ = c .before .before .before .before .before .before .before .before .before .before .before in
+    let midway = c .before .before .before .before .before in
+    let at-before = midway .before .before .before .before .before in
+    let on-entry : _ = c .before .before .before .before .before in
+    let entry : _ = on-entry .before .before .before .before .before .before in
     let short : _ = length-field (entry .args .samples) space in
     (entry .pre .1, omega arith)
 
@@ -27,7 +30,8 @@ same-length c = search needs
 
 returns : tie.Need-returns
 returns c =
-    let at-put-field : _ = c .before .before .before .before .before .before in
+    let on-at-put-field : _ = c .before .before .before .before .before in
+    let at-put-field : _ = on-at-put-field .before in
     let at-put-bytes : _ = at-put-field .before .before .before .before in
     let entry : _ = at-put-bytes .before .before .before .before in
     end-wrote (entry .args .samples) (entry .args .ticks) (at-put-bytes .put-bytes .ensures)

@@ -12,19 +12,27 @@ put-field-requires c κs = search needs
 
 put-field-requires-2 : tie.Need-put-field-requires-2
 put-field-requires-2 c κs =
-    let short : _ = length-field (c .before .before .before .before .before .before .args .number) space in
+    let midway = c .before .before .before .before .before in
+    let entry = midway .before in
+    let short : _ = length-field (entry .args .number) space in
     (omega arith, omega arith)
 
 put-field-requires-3 : tie.Need-put-field-requires-3
 put-field-requires-3 c κs =
-    let entry : _ = c .before .before .before .before .before .before .before .before .before .before in
+    let midway = c .before .before .before .before .before in
+    let at-before = midway .before .before .before .before in
+    let on-entry : _ = c .before .before .before .before .before in
+    let entry : _ = on-entry .before .before .before .before .before in
     let short : _ = length-field (entry .args .number) space in
     let short-kind : _ = length-field (entry .args .kind) space in
     (omega arith, omega arith)
 
 put-field-requires-4 : tie.Need-put-field-requires-4
 put-field-requires-4 c κs =
-    let at-put-field : _ = c .before .before .before .before .before .before .before .before .before .before .before in
+    let midway = c .before .before .before .before .before in
+    let at-before = midway .before .before .before .before .before in
+    let on-at-put-field : _ = c .before .before .before .before .before in
+    let at-put-field : _ = on-at-put-field .before .before .before .before .before .before in
     let entry : _ = at-put-field .before .before .before in
     let short : _ = length-field (entry .args .number) space in
     let short-kind : _ = length-field (entry .args .kind) space in
@@ -36,7 +44,8 @@ same-length c = search needs
 
 returns : tie.Need-returns
 returns c =
-    let at-put-field3 : _ = c .before .before .before .before .before .before in
+    let on-at-put-field3 : _ = c .before .before .before .before .before in
+    let at-put-field3 : _ = on-at-put-field3 .before in
     let at-put-field2 : _ = at-put-field3 .before .before .before .before in
     let at-put-field : _ = at-put-field2 .before .before .before .before in
     let entry : _ = at-put-field .before .before .before in

@@ -21,18 +21,22 @@ stepped-requires-3 c κs = search needs
 returns : tie.Need-returns
 unfolding timerStepped
 returns c =
-    let d = c .before .before .before .before .before .before .stepped .ensures in
+    let midway = c .before .before .before .before .before in
+    let at-stepped = midway .before in
+    let d = at-stepped .stepped .ensures in
     let b = c .before .before .before .stepped2 .ensures in
-    let turn = simp d at (sym (c .before .before .before .before .before .due .ensures) ∙ c .before .before .before .before .if1 .taken) in
+    let turn = simp d at (sym (midway .due .ensures) ∙ c .before .before .before .before .if1 .taken) in
     let round = simp b at (c .before .if2 .taken) in
     simp (d, b, c .stepped3 .ensures, turn, round)
 
 returns-2 : tie.Need-returns-2
 unfolding timerStepped
 returns-2 c =
-    let d = c .before .before .before .before .before .before .stepped .ensures in
+    let midway = c .before .before .before .before .before in
+    let at-stepped = midway .before in
+    let d = at-stepped .stepped .ensures in
     let b = c .before .before .before .stepped2 .ensures in
-    let turn = simp d at (sym (c .before .before .before .before .before .due .ensures) ∙ c .before .before .before .before .if1 .taken) in
+    let turn = simp d at (sym (midway .due .ensures) ∙ c .before .before .before .before .if1 .taken) in
     let round = simp b at (ne-eqb _ _ (c .before .if2 .left)) in
     simp (d, b, turn, round)
 

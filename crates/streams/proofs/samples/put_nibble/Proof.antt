@@ -22,7 +22,8 @@ same-length c = search needs
 
 returns : tie.Need-returns
 returns c =
-    let third = c .before .before .before .before .before .before in
+    let on-third = c .before .before .before .before .before in
+    let third = on-third .before in
     let second = third .before .before .before .before in
     wrote-four
     (second .before .before .before .before .put-bit .ensures)
