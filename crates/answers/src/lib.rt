@@ -27,7 +27,7 @@ pub struct Numbers {
     pub second: u8,
 }
 
-fn told(number: u8, first: u8, second: u8) -> Numbers
+fn numbered(number: u8, first: u8, second: u8) -> Numbers
     ensures { λ r. ⌜ r ≡ numbered number first second ⌝ }
 {
     Numbers {
@@ -43,19 +43,19 @@ impl Answer {
         ensures { λ r. ⌜ r ≡ numbers self ⌝ }
     {
         match self {
-            Answer::Nothing => told(0, 0, 0),
-            Answer::Opened => told(1, 0, 0),
-            Answer::Closed => told(2, 0, 0),
-            Answer::Dropped => told(3, 0, 0),
-            Answer::Taken => told(4, 0, 0),
-            Answer::Stored(address, nibble) => told(5, address, nibble),
-            Answer::Obeyed(code) => told(6, code, 0),
-            Answer::Passed(code) => told(7, code, 0),
-            Answer::Offered(address, bit) => told(8, address, bit as u8),
-            Answer::Stray => told(9, 0, 0),
-            Answer::Unknown => told(10, 0, 0),
-            Answer::Clash => told(11, 0, 0),
-            Answer::Refused(refusal) => told(refusal.number(), 0, 0),
+            Answer::Nothing => numbered(0, 0, 0),
+            Answer::Opened => numbered(1, 0, 0),
+            Answer::Closed => numbered(2, 0, 0),
+            Answer::Dropped => numbered(3, 0, 0),
+            Answer::Taken => numbered(4, 0, 0),
+            Answer::Stored(address, nibble) => numbered(5, address, nibble),
+            Answer::Obeyed(code) => numbered(6, code, 0),
+            Answer::Passed(code) => numbered(7, code, 0),
+            Answer::Offered(address, bit) => numbered(8, address, bit as u8),
+            Answer::Stray => numbered(9, 0, 0),
+            Answer::Unknown => numbered(10, 0, 0),
+            Answer::Clash => numbered(11, 0, 0),
+            Answer::Refused(refusal) => numbered(refusal.number(), 0, 0),
         }
     }
 }

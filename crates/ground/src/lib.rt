@@ -84,7 +84,7 @@ pub enum Outcome {
 pub fn first_above(values: &[u8], limit: u8) -> usize
     ensures { λ r. ⌜ r ≡ lowest (ltb limit) (now (values .entry)) ⌝ }
 {
-    let mut i: usize = 0; // the first value
+    let mut i: usize = 0;
     while i < values.len() {
         if limit < values[i] {
             return i;

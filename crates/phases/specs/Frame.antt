@@ -5,7 +5,7 @@ use mathlib.Core.Bool.{Bool, true, false, cond, not, _&&_, _||_}
 use mathlib.Core.List.{List, [], _∷_}
 use lib.Dec.{ltb, leb, eqb}
 use lib.ListN.{length, getD}
-use Rattle.ground.specs.Sizes.{recordLength}
+use Rattle.ground.specs.Sizes.{addresses, recordLength}
 use Rattle.ground.specs.Codes.{readBy, caseOf}
 use Rattle.ground.specs.Outcomes.{leftFrom, writtenAs}
 use Rattle.ground.specs.Written.{byte}
@@ -25,7 +25,7 @@ use Rattle.phases.specs.Phases.{round, unfinished, address, phaseNumber,
 
 -- Where a record has the frame's bytes, and DATA, the last of them.
 abbrev pub frameAt : ℕ
-frameAt = 32
+frameAt = addresses
 
 abbrev pub dataAt : ℕ
 dataAt = 39

@@ -13,7 +13,7 @@ use lines::Levels;
 pub const ROUND: u16 = ground::ADDRESSES as u16;
 
 // Where a record has the frame's bytes, and DATA, the last of them.
-pub const FRAME_AT: usize = 32;
+pub const FRAME_AT: usize = ground::ADDRESSES;
 
 pub const DATA_AT: usize = 39;
 

@@ -6,6 +6,7 @@ ghost use lib.ListN.{take};
 ghost use Rattle.demands.specs.Events.{after};
 ghost use Rattle.rehearsal.specs.Rehearsal.{paced, Rehearses};
 use chip::Chip;
+use ground::ADDRESSES;
 use ground::Outcome;
 
 // What a rehearsal comes to: what the driver answered, and the chip where the write was stopped.
@@ -69,7 +70,7 @@ fn show(chip: Chip) {
     let memory = port.memory;
     let mut line = [10u8; 33];
     let mut i: usize = 0;
-    while i < 32 {
+    while i < ADDRESSES {
         line[i] = digit(memory[i]);
         i += 1;
     }
@@ -77,7 +78,7 @@ fn show(chip: Chip) {
 }
 
 fn main() {
-    let zeros = [0u8; 32];
+    let zeros = [0u8; ADDRESSES];
     let start = power::power_on(&zeros);
     let nibbles = [1u8, 2, 3, 4, 5];
     let mut room = [0u8; 277];
