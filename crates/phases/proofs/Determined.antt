@@ -8,6 +8,8 @@ use Rattle.phases.proofs.Phase.unfinished.Kinds as unfinished-kinds
 use Rattle.phases.proofs.Phase.unfinished.Reads as unfinished-reads
 use Rattle.phases.proofs.Phase.address.Kinds as address-kinds
 use Rattle.phases.proofs.Phase.address.Reads as address-reads
+use Rattle.phases.proofs.holds_frame.Kinds as holds-frame-kinds
+use Rattle.phases.proofs.holds_frame.Reads as holds-frame-reads
 use Rattle.phases.proofs.frame_in.Kinds as frame-in-kinds
 use Rattle.phases.proofs.frame_in.Reads as frame-in-reads
 use Rattle.phases.proofs.write_frame.Kinds as write-frame-kinds
@@ -21,6 +23,9 @@ unfinished-determined κs args x y end end' p q = p ∙ sym q
 
 pub address-determined : Determined 0 address-kinds.ps address-kinds.r address-reads.Post
 address-determined κs args x y end end' p q = p ∙ sym q
+
+pub holds-frame-determined : Determined 1 holds-frame-kinds.ps holds-frame-kinds.r holds-frame-reads.Post
+holds-frame-determined κs args x y end end' p q = p ∙ sym q
 
 pub frame-in-determined : Determined 1 frame-in-kinds.ps frame-in-kinds.r frame-in-reads.Post
 frame-in-determined κs args x y end end' p q = p ∙ sym q

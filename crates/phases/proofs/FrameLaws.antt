@@ -26,7 +26,7 @@ use Rattle.phases.specs.declared.PhaseRead.{PhaseRead}
 use Rattle.phases.specs.declared.PhaseRead.the-variants.{Phased, NoPhase}
 use Rattle.phases.specs.declared.LineRead.{LineRead}
 use Rattle.phases.specs.declared.LineRead.the-variants.{Data, NoLine}
-use Rattle.phases.specs.declared.FrameRead.the-variants.{Framed, NoFrame}
+use Rattle.phases.specs.declared.FrameRead.the-variants.{Frame, NoFrame}
 use Rattle.phases.specs.Phases.{round, address, unfinished, valueOf, positionOf, phaseNumber, lineNumber}
 use Rattle.phases.specs.Frame.{frameAt, dataAt, frameBytes, inRange, goesWithCs, mostBits, bitsRight, restRight, frameRight, phaseRead, phaseIn, lineRead, lineIn, valueIn, frameFits, phaseAt, levelsAt, lineAt, frameRead}
 use Rattle.phases.specs.Valid.{FrameValid}
@@ -323,6 +323,6 @@ module _ (b : List ℕ) (long : length b ≡ recordLength) where
     read-line e = absurd (line-there (byte b dataAt) (fits-has b fits .data-low) e)
 
     pub read-whole : (phase : Phase) (line : Line) → phaseAt b ≡ Phased phase → lineAt b ≡ Data line
-        → Framed (levelsAt b) phase line ≡ frameRead b
+        → Frame (levelsAt b) phase line ≡ frameRead b
     unfolding frameRead
     read-whole phase line p l = rw (eq-eqb _ _ long, fits, p, l)

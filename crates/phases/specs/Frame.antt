@@ -20,7 +20,7 @@ use Rattle.phases.specs.declared.PhaseRead.the-variants.{Phased, NoPhase
 use Rattle.phases.specs.declared.LineRead.{LineRead}
 use Rattle.phases.specs.declared.LineRead.the-variants.{Data, NoLine}
 use Rattle.phases.specs.declared.FrameRead.{FrameRead}
-use Rattle.phases.specs.declared.FrameRead.the-variants.{Framed, NoFrame}
+use Rattle.phases.specs.declared.FrameRead.the-variants.{Frame, NoFrame}
 use Rattle.phases.specs.Phases.{round, unfinished, address, phaseNumber, valueOf, positionOf, lineNumber}
 
 -- Where a record has the frame's bytes, and DATA, the last of them.
@@ -108,6 +108,9 @@ module _ (b : List ℕ) where
   abbrev pub lineAt : LineRead
   lineAt = lineRead (byte b dataAt)
 
-  -- A frame in a list that is as long as a record and has right bytes there.
+  -- A list that is as long as a record and has right bytes there; and the frame in it.
+  abbrev pub holdsFrame : Bool
+  holdsFrame = eqb (length b) recordLength && frameFits
+
   unfoldable pub frameRead : FrameRead
-  frameRead = cond (eqb (length b) recordLength && frameFits) (Framed levelsAt (phaseIn phaseAt) (lineIn lineAt)) NoFrame
+  frameRead = cond holdsFrame (Frame levelsAt (phaseIn phaseAt) (lineIn lineAt)) NoFrame

@@ -4,7 +4,7 @@ ghost use mathlib.Core.Path.{_≡_};
 ghost use Prim.Native.Nat.{_+_, _*_};
 ghost use Rattle.ground.specs.Outcomes.{writtenAs};
 ghost use Rattle.phases.specs.Phases.{unfinished, address, valueOf, positionOf, phaseNumber, lineNumber};
-ghost use Rattle.phases.specs.Frame.{phaseRead, lineRead, inRange, goesWithCs, bitsRight, restRight, frameRight, frameRead, frameOver};
+ghost use Rattle.phases.specs.Frame.{phaseRead, lineRead, inRange, goesWithCs, bitsRight, restRight, frameRight, holdsFrame, frameRead, frameOver};
 use ground::Outcome;
 use ground::Refusal;
 use lines::Levels;
@@ -141,7 +141,7 @@ pub enum LineRead {
 
 // What the frame's bytes read to.
 pub enum FrameRead {
-    Framed(Levels, Phase, Line),
+    Frame(Levels, Phase, Line),
     NoFrame,
 }
 
@@ -260,6 +260,25 @@ fn value_from(low: u8, high: u8) -> u16
     low as u16 + 256 * (high as u16)
 }
 
+// Whether a record's bytes 32 to 39 are right: for whoever has no use for the frame itself.
+pub fn holds_frame(bytes: &[u8]) -> bool
+    ensures { λ r. ⌜ r ≡ holdsFrame (now (bytes .entry)) ⌝ }
+{
+    if bytes.len() != ground::RECORD_LENGTH {
+        return false;
+    }
+    let value = value_from(bytes[35], bytes[36]);
+    frame_right(
+        bytes[FRAME_AT],
+        bytes[33],
+        bytes[34],
+        value,
+        bytes[37],
+        bytes[38],
+        bytes[DATA_AT],
+    )
+}
+
 // The lines, the phase and DATA that a record's bytes 32 to 39 say, if they are right.
 pub fn frame_in(bytes: &[u8]) -> FrameRead
     ensures { λ r. ⌜ r ≡ frameRead (now (bytes .entry)) ⌝ }
@@ -284,7 +303,7 @@ pub fn frame_in(bytes: &[u8]) -> FrameRead
         return FrameRead::NoFrame;
     };
     let levels = lines::levels_of(lines);
-    FrameRead::Framed(levels, phase, line)
+    FrameRead::Frame(levels, phase, line)
 }
 
 // Of a record that a buffer holds, the frame's bytes alone. Each is stored by itself: so the next reading loads what was

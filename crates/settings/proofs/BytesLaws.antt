@@ -256,35 +256,30 @@ unfolding settingsRead
 part-length b h = rw (ne-eqb _ _ h)
 
 module _ (b : List ℕ) (long : length b ≡ recordLength) where
-  pub part-above : upTo (drop settingsAt b) settingsMaxima ≡ false → NoSettings ≡ settingsRead b
-  unfolding settingsRead settingsRight
-  part-above e = rw (eq-eqb _ _ long, e)
+  pub part-unknown : selectionsRead b ≡ NoSelections → NoSettings ≡ settingsRead b
+  unfolding settingsRead selectionsRead
+  part-unknown e =
+      let no : selectionsKnown b ≡ false = none _ _ _ _ _ _ e in
+      rw (eq-eqb _ _ long, no)
 
-  module _ (fits : upTo (drop settingsAt b) settingsMaxima ≡ true) where
-    pub part-unknown : selectionsRead b ≡ NoSelections → NoSettings ≡ settingsRead b
-    unfolding settingsRead settingsRight selectionsRead
-    part-unknown e =
-        let no : selectionsKnown b ≡ false = none _ _ _ _ _ _ e in
-        rw (eq-eqb _ _ long, fits, no)
-
-    pub part-whole : (source : Source) (bias : Bias) (commons : Commons) (pitch : Pitch) (irq : IrqSource)
-        → selectionsRead b ≡ Selected source bias commons pitch irq
-        → Set
-        (record {
-          system = record { on = eqb (byte b 40) 1; source = source };
-          lcd = record { on = eqb (byte b 42) 1; bias = bias; commons = commons };
-          tone = record { on = eqb (byte b 45) 1; pitch = pitch };
-          irq = record { on = eqb (byte b 47) 1; source = irq };
-          base = record { on = eqb (byte b 49) 1; rate = byte b 48 };
-          counters = settingsOf b .counters;
-          test = eqb (byte b 57) 1;
-        })
-        ≡ settingsRead b
-    unfolding settingsRead settingsRight selectionsRead
-    part-whole source bias commons pitch irq e =
-        let all = found _ _ _ _ _ _ source bias commons pitch irq e in
-        let known : selectionsKnown b ≡ true = all .0 in
-        rw (eq-eqb _ _ long, fits, known) (simp (all .1 .0, all .1 .1, all .1 .2, all .1 .3, all .1 .4))
+  pub part-whole : (source : Source) (bias : Bias) (commons : Commons) (pitch : Pitch) (irq : IrqSource)
+      → selectionsRead b ≡ Selected source bias commons pitch irq
+      → Set
+      (record {
+        system = record { on = eqb (byte b 40) 1; source = source };
+        lcd = record { on = eqb (byte b 42) 1; bias = bias; commons = commons };
+        tone = record { on = eqb (byte b 45) 1; pitch = pitch };
+        irq = record { on = eqb (byte b 47) 1; source = irq };
+        base = record { on = eqb (byte b 49) 1; rate = byte b 48 };
+        counters = settingsOf b .counters;
+        test = eqb (byte b 57) 1;
+      })
+      ≡ settingsRead b
+  unfolding settingsRead selectionsRead
+  part-whole source bias commons pitch irq e =
+      let all = found _ _ _ _ _ _ source bias commons pitch irq e in
+      let known : selectionsKnown b ≡ true = all .0 in
+      rw (eq-eqb _ _ long, known) (simp (all .1 .0, all .1 .1, all .1 .2, all .1 .3, all .1 .4))
 
 -- ---- the settings put over a record: stores, the counters after them, and stores again
 

@@ -98,6 +98,10 @@ module _ (b : List ℕ) where
   unfoldable pub settingsRight : Bool
   settingsRight = upTo (drop settingsAt b) settingsMaxima && selectionsKnown
 
+  -- The ranges by themselves, in a list that is as long as a record.
+  abbrev pub settingsInRange : Bool
+  settingsInRange = eqb (length b) recordLength && upTo (drop settingsAt b) settingsMaxima
+
   -- Each byte in turn changes what it stands for, so that nothing is left of where they begin.
   abbrev pub settingsOf : Settings
   settingsOf = readFrom b settingsAt settingsFields powerOn
@@ -110,6 +114,6 @@ module _ (b : List ℕ) where
       (settingsOf .irq .source))
       NoSelections
 
-  -- The settings in a list that is as long as a record and has right bytes there.
+  -- The settings in a list that is as long as a record and has known selections there.
   unfoldable pub settingsRead : SettingsRead
-  settingsRead = cond (eqb (length b) recordLength && settingsRight) (Set settingsOf) NoSettings
+  settingsRead = cond (eqb (length b) recordLength && selectionsKnown) (Set settingsOf) NoSettings

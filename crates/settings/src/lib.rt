@@ -1,13 +1,12 @@
 // The settings: the switches and selections that commands set, with the counters; and all of them as bytes of a state record,
 // 40 to 63. Assumes nothing.
 ghost use mathlib.Core.Path.{_≡_};
-ghost use lib.ListN.{length, drop};
+ghost use lib.ListN.{length};
 ghost use Rattle.ground.specs.Sizes.{recordLength};
-ghost use Rattle.ground.specs.Ranges.{upTo};
 ghost use Rattle.ground.specs.Outcomes.{writtenAs};
 ghost use Rattle.settings.specs.Numbers.{pitchNumber, irqSourceNumber};
 ghost use Rattle.settings.specs.Selections.{sourceRead, biasRead, commonsRead, pitchRead, irqSourceRead};
-ghost use Rattle.settings.specs.Bytes.{settingsAt, settingsMaxima, settingsOf, selectionsRead, settingsRead, settingsOver, countersOver};
+ghost use Rattle.settings.specs.Bytes.{settingsInRange, settingsOf, selectionsRead, settingsRead, settingsOver, countersOver};
 use clock::BaseCounter;
 use clock::Counters;
 use clock::Divider;
@@ -232,11 +231,14 @@ const MAXIMA: [u8; LENGTH] = [
     0,
 ];
 
-// Whether each of the settings' bytes is in range.
-fn in_range(bytes: &[u8]) -> bool
-    requires { ⌜ length (now bytes) ≡ recordLength ⌝ }
-    ensures { λ r. ⌜ r ≡ upTo (drop settingsAt (now (bytes .entry))) settingsMaxima ⌝ }
+// Whether each of a record's bytes 40 to 63 is in range. Apart from `part_in`, which is then small enough to be put into its
+// callers.
+pub fn in_range(bytes: &[u8]) -> bool
+    ensures { λ r. ⌜ r ≡ settingsInRange (now (bytes .entry)) ⌝ }
 {
+    if bytes.len() != RECORD_LENGTH {
+        return false;
+    }
     let most = MAXIMA;
     let mut i: usize = 0;
     while i < LENGTH {
@@ -290,14 +292,11 @@ fn counters_of(bytes: &[u8]) -> Counters
     }
 }
 
-// The settings that a record's bytes 40 to 63 say, if they are right.
+// The settings that a record's bytes 40 to 63 say, if each selection is one of its cases.
 pub fn part_in(bytes: &[u8]) -> SettingsRead
     ensures { λ r. ⌜ r ≡ settingsRead (now (bytes .entry)) ⌝ }
 {
     if bytes.len() != RECORD_LENGTH {
-        return SettingsRead::NoSettings;
-    }
-    if !in_range(bytes) {
         return SettingsRead::NoSettings;
     }
     let SelectionsRead::Selected(source, bias, commons, pitch, irq) = selections_in(bytes) else {

@@ -5,9 +5,10 @@ use mathlib.Core.List.{List, _++_, append-nil}
 use Prim.Native.Nat.{ℕ, _+_, _≤_}
 use native.Mathlib.Omega.{arith}
 use lib.Dec.{ltb, eqb}
-use lib.ListN.{length, take, length-append}
+use lib.ListN.{length, take, drop}
 use borrow.Author.Tests.{eqb-true, eq-eqb, le-ltb}
 use Rattle.ground.specs.Sizes.{addresses, recordLength}
+use Rattle.ground.specs.Ranges.{upTo}
 use Rattle.ground.specs.declared.Refusal.the-variants.{OutputShort}
 use Rattle.ground.specs.declared.Outcome.the-variants.{Written, Refused}
 use Rattle.ground.specs.Outcomes.{outcomeNumber, writtenAs}
@@ -17,11 +18,11 @@ use Rattle.ground.proofs.WrittenLaws.{length-over, over-over}
 use Rattle.lines.specs.declared.Levels.{Levels}
 use Rattle.phases.specs.declared.Phase.{Phase}
 use Rattle.phases.specs.declared.Line.{Line}
-use Rattle.phases.specs.declared.FrameRead.the-variants.{Framed, NoFrame}
-use Rattle.phases.specs.Frame.{frameAt, frameOver, frameFits, levelsAt, phaseAt, phaseIn, lineAt, lineIn, frameRead}
+use Rattle.phases.specs.declared.FrameRead.the-variants.{Frame, NoFrame}
+use Rattle.phases.specs.Frame.{frameAt, frameOver, frameFits, levelsAt, phaseAt, phaseIn, lineAt, lineIn, holdsFrame, frameRead}
 use Rattle.settings.specs.declared.Settings.{Settings}
 use Rattle.settings.specs.declared.SettingsRead.the-variants.{Set, NoSettings}
-use Rattle.settings.specs.Bytes.{settingsAt, settingsBytes, settingsOver, settingsRight, settingsOf, settingsRead}
+use Rattle.settings.specs.Bytes.{settingsAt, settingsBytes, settingsOver, settingsMaxima, selectionsKnown, settingsInRange, settingsRight, settingsOf, settingsRead}
 use Rattle.port.specs.declared.Port.{Port}
 use Rattle.state.specs.declared.Recalled.{Recalled}
 use Rattle.state.specs.declared.Verdict.the-variants as verdict
@@ -81,19 +82,19 @@ module _ (right : Bool) (settings : Settings) where
       by false e = (cc, cc)
 
 module _ (right : Bool) (levels : Levels) (phase : Phase) (line : Line) where
-  frame-none : cond right (Framed levels phase line) NoFrame ≡ NoFrame → right ≡ false
+  frame-none : cond right (Frame levels phase line) NoFrame ≡ NoFrame → right ≡ false
   frame-none = by right
     where
-      by : (t : Bool) → cond t (Framed levels phase line) NoFrame ≡ NoFrame → t ≡ false
+      by : (t : Bool) → cond t (Frame levels phase line) NoFrame ≡ NoFrame → t ≡ false
       by true e = cc
       by false e = refl
 
   frame-found : (levels' : Levels) (phase' : Phase) (line' : Line)
-      → cond right (Framed levels phase line) NoFrame ≡ Framed levels' phase' line'
+      → cond right (Frame levels phase line) NoFrame ≡ Frame levels' phase' line'
       → (right ≡ true) × (levels ≡ levels') × (phase ≡ phase') × (line ≡ line')
   frame-found levels' phase' line' = by right
     where
-      by : (t : Bool) → cond t (Framed levels phase line) NoFrame ≡ Framed levels' phase' line'
+      by : (t : Bool) → cond t (Frame levels phase line) NoFrame ≡ Frame levels' phase' line'
           → (t ≡ true) × (levels ≡ levels') × (phase ≡ phase') × (line ≡ line')
       by true e = (refl, cc, cc, cc)
       by false e = (cc, cc, cc, cc)
@@ -116,62 +117,83 @@ module _ (b : List ℕ) (begun : begins b ≡ true) where
   long : eqb (length b) recordLength ≡ true
   long = and-left (eqb (length b) recordLength) (memoryFits b) begun
 
-  no-frame : frameRead b ≡ NoFrame → frameFits b ≡ false
-  unfolding frameRead
-  no-frame e = frame-none (frameFits b) _ _ _ (rw long at e)
+  above : settingsInRange b ≡ false → settingsRight b ≡ false
+  unfolding settingsRight
+  above e = let no : upTo (drop settingsAt b) settingsMaxima ≡ false = rw long at e in rw no
+
+  -- the last test that fails decides
+  last-fails : settingsRight b ≡ false → recordValid b ≡ false
+  unfolding recordValid
+  last-fails e = rw (begun, e) (by (frameFits b))
+    where
+      by : (t : Bool) → (t && false) ≡ false
+      by true = refl
+      by false = refl
+
+  pub read-above : settingsInRange b ≡ false → nothingRecalled ≡ recalledFrom b
+  unfolding recalledFrom
+  read-above e = rw (last-fails (above e))
+
+  pub settings-above : settingsInRange b ≡ false → NoSettings ≡ settingsIn b
+  unfolding settingsIn
+  settings-above e = rw (last-fails (above e))
+
+  pub settings-frame : holdsFrame b ≡ false → NoSettings ≡ settingsIn b
+  unfolding settingsIn recordValid
+  settings-frame e = let no : frameFits b ≡ false = rw long at e in rw (begun, no)
 
   pub read-frame : frameRead b ≡ NoFrame → nothingRecalled ≡ recalledFrom b
-  unfolding recalledFrom recordValid
-  read-frame e = rw (begun, no-frame e)
+  unfolding recalledFrom recordValid frameRead
+  read-frame e = let no : frameFits b ≡ false = frame-none (frameFits b) _ _ _ (rw long at e) in rw (begun, no)
 
-  pub settings-frame : frameRead b ≡ NoFrame → NoSettings ≡ settingsIn b
-  unfolding settingsIn recordValid
-  settings-frame e = rw (begun, no-frame e)
+  module _ (ranged : settingsInRange b ≡ true) where
+    fit : upTo (drop settingsAt b) settingsMaxima ≡ true
+    fit = rw long at ranged
 
-  module _ (levels : Levels) (phase : Phase) (line : Line) (framed : frameRead b ≡ Framed levels phase line) where
-    frame : (frameFits b ≡ true) × (levelsAt b ≡ levels) × (phaseIn (phaseAt b) ≡ phase) × (lineIn (lineAt b) ≡ line)
-    unfolding frameRead
-    frame = frame-found (frameFits b) _ _ _ levels phase line (rw long at framed)
+    pub settings-whole : holdsFrame b ≡ true → settingsRead b ≡ settingsIn b
+    unfolding settingsIn settingsRead settingsRight recordValid
+    settings-whole e = let framed : frameFits b ≡ true = rw long at e in rw (begun, long, framed, fit)
 
-    fits : frameFits b ≡ true
-    fits = frame .0
+    module _ (levels : Levels) (phase : Phase) (line : Line) (framed : frameRead b ≡ Frame levels phase line) where
+      frame : (frameFits b ≡ true) × (levelsAt b ≡ levels) × (phaseIn (phaseAt b) ≡ phase) × (lineIn (lineAt b) ≡ line)
+      unfolding frameRead
+      frame = frame-found (frameFits b) _ _ _ levels phase line (rw long at framed)
 
-    pub settings-whole : settingsRead b ≡ settingsIn b
-    unfolding settingsIn settingsRead recordValid
-    settings-whole = rw (begun, long, fits)
+      fits : frameFits b ≡ true
+      fits = frame .0
 
-    pub read-settings : settingsRead b ≡ NoSettings → nothingRecalled ≡ recalledFrom b
-    unfolding recalledFrom settingsRead recordValid
-    read-settings e =
-        let none : settingsRight b ≡ false = settings-none (settingsRight b) (settingsOf b) (rw long at e) in
-        rw (begun, fits, none)
+      pub read-settings : settingsRead b ≡ NoSettings → nothingRecalled ≡ recalledFrom b
+      unfolding recalledFrom settingsRead settingsRight recordValid
+      read-settings e =
+          let none : selectionsKnown b ≡ false = settings-none (selectionsKnown b) (settingsOf b) (rw long at e) in
+          rw (begun, fits, fit, none)
 
-    pub read-whole : (settings : Settings) (memory : List ℕ) → settingsRead b ≡ Set settings → memory ≡ memoryFrom b
-        → record {
-          answer = verdict.Valid;
-          chip = record { port = record { memory = memory; levels = levels; phase = phase; line = line }; settings = settings };
-        }
-        ≡ recalledFrom b
-    unfolding recalledFrom settingsRead recordValid chipOf
-    read-whole settings memory e m =
-        let found = settings-found (settingsRight b) (settingsOf b) settings (rw long at e) in
-        let right : settingsRight b ≡ true = found .0 in
-        rw (begun, fits, right)
-        (λ i.
-        record {
-          answer = verdict.Valid;
-          chip =
-              record {
-                port =
-                    record {
-                      memory = (m ∙ memory-taken b (eqb-true (length b) recordLength long)) i;
-                      levels = sym (frame .1) i;
-                      phase = sym (frame .2) i;
-                      line = sym (frame .3) i;
-                    };
-                settings = sym (found .1) i;
-              };
-        })
+      pub read-whole : (settings : Settings) (memory : List ℕ) → settingsRead b ≡ Set settings → memory ≡ memoryFrom b
+          → record {
+            answer = verdict.Valid;
+            chip = record { port = record { memory = memory; levels = levels; phase = phase; line = line }; settings = settings };
+          }
+          ≡ recalledFrom b
+      unfolding recalledFrom settingsRead settingsRight recordValid chipOf
+      read-whole settings memory e m =
+          let found = settings-found (selectionsKnown b) (settingsOf b) settings (rw long at e) in
+          let known : selectionsKnown b ≡ true = found .0 in
+          rw (begun, fits, fit, known)
+          (λ i.
+          record {
+            answer = verdict.Valid;
+            chip =
+                record {
+                  port =
+                      record {
+                        memory = (m ∙ memory-taken b (eqb-true (length b) recordLength long)) i;
+                        levels = sym (frame .1) i;
+                        phase = sym (frame .2) i;
+                        line = sym (frame .3) i;
+                      };
+                  settings = sym (found .1) i;
+                };
+          })
 
 -- ---- the paper's numbers: reading accepts exactly the valid records and refuses all others with 28, writing refuses with 25
 

@@ -68,9 +68,12 @@ pub fn settings_in(bytes: &[u8]) -> SettingsRead
     if !memory_right(bytes) {
         return SettingsRead::NoSettings;
     }
-    let FrameRead::Framed(_, _, _) = phases::frame_in(bytes) else {
+    if !settings::in_range(bytes) {
         return SettingsRead::NoSettings;
-    };
+    }
+    if !phases::holds_frame(bytes) {
+        return SettingsRead::NoSettings;
+    }
     settings::part_in(bytes)
 }
 
@@ -81,7 +84,10 @@ pub fn read(bytes: &[u8]) -> Recalled
     if !memory_right(bytes) {
         return nothing_recalled();
     }
-    let FrameRead::Framed(levels, phase, line) = phases::frame_in(bytes) else {
+    if !settings::in_range(bytes) {
+        return nothing_recalled();
+    }
+    let FrameRead::Frame(levels, phase, line) = phases::frame_in(bytes) else {
         return nothing_recalled();
     };
     let SettingsRead::Set(settings) = settings::part_in(bytes) else {

@@ -3,6 +3,7 @@ use mathlib.Core.Path.{_≡_, _∙_, sym, refl}
 use Prim.Native.Nat.{_-_, _≤_}
 use native.Mathlib.Omega.{arith}
 use borrow.Author.Needs.{needs}
+use borrow.Author.Tests.{eq-eqb, ne-eqb}
 use lib.ListN.{drop}
 use Rattle.ground.specs.Ranges.{upTo}
 use Rattle.settings.specs.Bytes.{settingsAt, settingsMaxima}
@@ -17,24 +18,29 @@ Inv-loop bytes most i₀ i =
 abbrev μ-loop : tie.MeasureT-loop
 μ-loop bytes most i₀ i = 24 - i
 
+returns : tie.Need-returns Inv-loop μ-loop
+returns c = simp (ne-eqb _ _ (c .if1 .taken))
+
 loop-holds : tie.Need-loop-holds Inv-loop μ-loop
 loop-holds c = (omega arith, refl)
 
-array-read-if1 : tie.Need-array-read-if1 Inv-loop μ-loop
-array-read-if1 c = search needs
+array-read-if2 : tie.Need-array-read-if2 Inv-loop μ-loop
+array-read-if2 c = search needs
 
-add-if1 : tie.Need-add-if1 Inv-loop μ-loop
-add-if1 c = search needs
+add-if2 : tie.Need-add-if2 Inv-loop μ-loop
+add-if2 c = search needs
 
-shared-slice-read-if1 : tie.Need-shared-slice-read-if1 Inv-loop μ-loop
-shared-slice-read-if1 c = search needs
+shared-slice-read-if2 : tie.Need-shared-slice-read-if2 Inv-loop μ-loop
+shared-slice-read-if2 c = search needs
 
-returns : tie.Need-returns Inv-loop μ-loop
-returns c =
+returns-2 : tie.Need-returns-2 Inv-loop μ-loop
+returns-2 c =
     let turn = c .before .before in
     let loop = turn .before in
-    sym (range-fails (loop .before .args .bytes .now) (loop .before .pre) (loop .loop .i) (turn .loop-test .taken) (c .if1 .taken))
-    ∙ loop .loop .inv .1
+    let size = loop .before in
+    rw (eq-eqb _ _ (size .if1 .left))
+    (sym (range-fails (size .before .args .bytes .now) (size .if1 .left) (loop .loop .i) (turn .loop-test .taken) (c .if2 .taken))
+    ∙ loop .loop .inv .1)
 
 add-i : tie.Need-add-i Inv-loop μ-loop
 add-i c = search needs
@@ -45,16 +51,19 @@ loop-less c = search needs
 loop-again : tie.Need-loop-again Inv-loop μ-loop
 loop-again c =
     let turn = c .before .before in
-    let loop = turn .before in (
+    let loop = turn .before in
+    let size = loop .before in (
       omega arith,
-      sym (range-passes (loop .before .args .bytes .now) (loop .before .pre) (loop .loop .i) (turn .loop-test .taken) (c .if1 .left))
+      sym (range-passes (size .before .args .bytes .now) (size .if1 .left) (loop .loop .i) (turn .loop-test .taken) (c .if2 .left))
           ∙ loop .loop .inv .1,
     )
 
-returns-2 : tie.Need-returns-2 Inv-loop μ-loop
-returns-2 c =
+returns-3 : tie.Need-returns-3 Inv-loop μ-loop
+returns-3 c =
     let loop = c .before in
-    sym (range-ends (loop .before .args .bytes .now) (loop .before .pre) (loop .loop .i) (omega arith)) ∙ loop .loop .inv .1
+    let size = loop .before in
+    rw (eq-eqb _ _ (size .if1 .left))
+    (sym (range-ends (size .before .args .bytes .now) (size .if1 .left) (loop .loop .i) (omega arith)) ∙ loop .loop .inv .1)
 
 pub in-range-spec : {M : Type 1} → statement M
 in-range-spec =
@@ -62,12 +71,13 @@ in-range-spec =
     (tie.spec
     Inv-loop
     μ-loop
-    loop-holds
-    array-read-if1
-    add-if1
-    shared-slice-read-if1
     returns
+    loop-holds
+    array-read-if2
+    add-if2
+    shared-slice-read-if2
+    returns-2
     add-i
     loop-less
     loop-again
-    returns-2)
+    returns-3)

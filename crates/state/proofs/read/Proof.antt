@@ -1,7 +1,8 @@
--- `state::read` meets its contract: length and memory decide, then the frame, then the settings. Assumes nothing.
+-- `state::read` meets its contract: length and memory decide, then the settings' ranges, the frame, and the settings.
+-- Assumes nothing.
 use mathlib.Core.Path.{_∙_, sym}
 use borrow.Author.Tests.{not-true, not-false}
-use Rattle.state.proofs.RecordLaws.{read-begins, read-frame, read-settings, read-whole}
+use Rattle.state.proofs.RecordLaws.{read-begins, read-above, read-frame, read-settings, read-whole}
 use borrow.Author.Needs.{needs}
 use Rattle.state.proofs.read.Statement.{statement}
 use Rattle.state.proofs.read.Tie as tie
@@ -18,6 +19,20 @@ returns c =
     c .nothing-recalled .ensures
     ∙ read-begins (memory .before .before .args .bytes .now) (sym (memory .memory-right .ensures) ∙ not-true _ (c .before .if1 .taken))
 
+in-range-requires : tie.Need-in-range-requires
+in-range-requires c κs = search needs
+
+nothing-recalled-requires-2 : tie.Need-nothing-recalled-requires-2
+nothing-recalled-requires-2 c κs = search needs
+
+returns-2 : tie.Need-returns-2
+returns-2 c =
+    let range = c .before .before in
+    let memory = range .before .before in
+    c .nothing-recalled2 .ensures
+    ∙ read-above (memory .before .before .args .bytes .now) (sym (memory .memory-right .ensures) ∙ not-false _ (range .before .if1 .left))
+    (sym (range .in-range .ensures) ∙ not-true _ (c .before .if2 .taken))
+
 frame-in-requires : tie.Need-frame-in-requires
 frame-in-requires c κs = search needs
 
@@ -27,15 +42,16 @@ enum-known-levels c = search needs
 enum-told : tie.Need-enum-told
 enum-told c = search needs
 
-nothing-recalled-requires-2 : tie.Need-nothing-recalled-requires-2
-nothing-recalled-requires-2 c κs = search needs
+nothing-recalled-requires-3 : tie.Need-nothing-recalled-requires-3
+nothing-recalled-requires-3 c κs = search needs
 
-returns-2 : tie.Need-returns-2
-returns-2 c =
+returns-3 : tie.Need-returns-3
+returns-3 c =
     let frame = c .before .before .before in
-    let memory = frame .before .before in
-    c .nothing-recalled2 .ensures
-    ∙ read-frame (memory .before .before .args .bytes .now) (sym (memory .memory-right .ensures) ∙ not-false _ (frame .before .if1 .left))
+    let range = frame .before .before in
+    let memory = range .before .before in
+    c .nothing-recalled3 .ensures
+    ∙ read-frame (memory .before .before .args .bytes .now) (sym (memory .memory-right .ensures) ∙ not-false _ (range .before .if1 .left))
     (sym (frame .frame-in .ensures) ∙ c .before .enum-told .given .1)
 
 part-in-requires : tie.Need-part-in-requires
@@ -47,32 +63,35 @@ enum-known-settings c = search needs
 enum-told-2 : tie.Need-enum-told-2
 enum-told-2 c = search needs
 
-nothing-recalled-requires-3 : tie.Need-nothing-recalled-requires-3
-nothing-recalled-requires-3 c κs = search needs
+nothing-recalled-requires-4 : tie.Need-nothing-recalled-requires-4
+nothing-recalled-requires-4 c κs = search needs
 
-returns-3 : tie.Need-returns-3
-returns-3 c =
+returns-4 : tie.Need-returns-4
+returns-4 c =
     let settings = c .before .before .before in
     let framed = settings .before .before in
     let frame = framed .before .before in
-    let memory = frame .before .before in
-    c .nothing-recalled3 .ensures
-    ∙ read-settings (memory .before .before .args .bytes .now) (sym (memory .memory-right .ensures) ∙ not-false _ (frame .before .if1 .left)) _ _ _
-    (sym (frame .frame-in .ensures) ∙ framed .levels .given .1) (sym (settings .part-in .ensures) ∙ c .before .enum-told2 .given .1)
+    let range = frame .before .before in
+    let memory = range .before .before in
+    c .nothing-recalled4 .ensures
+    ∙ read-settings (memory .before .before .args .bytes .now) (sym (memory .memory-right .ensures) ∙ not-false _ (range .before .if1 .left))
+    (sym (range .in-range .ensures) ∙ not-false _ (frame .before .if2 .left)) _ _ _ (sym (frame .frame-in .ensures) ∙ framed .levels .given .1)
+    (sym (settings .part-in .ensures) ∙ c .before .enum-told2 .given .1)
 
 memory-from-requires : tie.Need-memory-from-requires
 memory-from-requires c κs = search needs
 
-returns-4 : tie.Need-returns-4
-returns-4 c =
+returns-5 : tie.Need-returns-5
+returns-5 c =
     let set = c .before .before in
     let settings = set .before .before in
     let framed = settings .before .before in
     let frame = framed .before .before in
-    let memory = frame .before .before in
-    read-whole (memory .before .before .args .bytes .now) (sym (memory .memory-right .ensures) ∙ not-false _ (frame .before .if1 .left)) _ _ _
-    (sym (frame .frame-in .ensures) ∙ framed .levels .given .1) _ _ (sym (settings .part-in .ensures) ∙ set .settings .given .1)
-    (c .memory-from .ensures)
+    let range = frame .before .before in
+    let memory = range .before .before in
+    read-whole (memory .before .before .args .bytes .now) (sym (memory .memory-right .ensures) ∙ not-false _ (range .before .if1 .left))
+    (sym (range .in-range .ensures) ∙ not-false _ (frame .before .if2 .left)) _ _ _ (sym (frame .frame-in .ensures) ∙ framed .levels .given .1) _ _
+    (sym (settings .part-in .ensures) ∙ set .settings .given .1) (c .memory-from .ensures)
 
 pub read-spec : {M : Type 1} → statement M
 read-spec =
@@ -81,15 +100,18 @@ read-spec =
     memory-right-requires
     nothing-recalled-requires
     returns
+    in-range-requires
+    nothing-recalled-requires-2
+    returns-2
     frame-in-requires
     enum-known-levels
     enum-told
-    nothing-recalled-requires-2
-    returns-2
+    nothing-recalled-requires-3
+    returns-3
     part-in-requires
     enum-known-settings
     enum-told-2
-    nothing-recalled-requires-3
-    returns-3
+    nothing-recalled-requires-4
+    returns-4
     memory-from-requires
-    returns-4)
+    returns-5)

@@ -55,8 +55,8 @@ numbered-requires-8 c κs = search needs
 enum-known-self-4 : tie.Need-enum-known-self-4
 enum-known-self-4 c = search needs
 
-cast-told : tie.Need-cast-told
-cast-told c = search needs
+cast-numbered : tie.Need-cast-numbered
+cast-numbered c = search needs
 
 numbered-requires-9 : tie.Need-numbered-requires-9
 numbered-requires-9 c κs = search needs
@@ -148,7 +148,7 @@ numbers-spec =
     enum-known-self-3
     numbered-requires-8
     enum-known-self-4
-    cast-told
+    cast-numbered
     numbered-requires-9
     enum-told-6
     numbered-requires-10
