@@ -4,7 +4,10 @@ ghost use mathlib.Core.Path.{_≡_};
 ghost use Prim.Native.Nat.{_+_, _*_};
 ghost use Rattle.ground.specs.Outcomes.{writtenAs};
 ghost use Rattle.phases.specs.Phases.{unfinished, address, valueOf, positionOf, phaseNumber, lineNumber};
-ghost use Rattle.phases.specs.Frame.{phaseRead, lineRead, inRange, goesWithCs, bitsRight, restRight, frameRight, holdsFrame, frameRead, frameOver};
+ghost use Rattle.phases.specs.Frame.{phaseRead, lineRead, holdsFrame, frameRead, frameOver};
+
+mod right; // right.rt: which bytes of a frame are right
+
 use ground::Outcome;
 use ground::Refusal;
 use lines::Levels;
@@ -174,85 +177,6 @@ fn line_of(code: u8) -> LineRead
     }
 }
 
-// Whether the bytes that do not go by the phase are in range.
-fn in_range(lines: u8, at: u8, position: u8, line: u8) -> bool
-    ensures { λ r. ⌜ r ≡ inRange lines at position line ⌝ }
-{
-    if 15 < lines {
-        return false;
-    }
-    if ROUND <= at as u16 {
-        return false;
-    }
-    if 3 < position {
-        return false;
-    }
-    line <= 2
-}
-
-// Whether there is no frame exactly while CS is high.
-fn goes_with_cs(lines: u8, code: u8) -> bool
-    ensures { λ r. ⌜ r ≡ goesWithCs lines code ⌝ }
-{
-    if lines % 2 == 1 {
-        return code == 0;
-    }
-    code != 0
-}
-
-// The most unfinished bits that each phase can have.
-const MOST_BITS: [u8; 8] = [0, 2, 5, 5, 0, 3, 8, 0];
-
-// Whether there is such a phase, it can have so many unfinished bits, and they this value.
-fn bits_right(code: u8, count: u8, value: u16) -> bool
-    ensures { λ r. ⌜ r ≡ bitsRight code count value ⌝ }
-{
-    if 7 < code {
-        return false;
-    }
-    let most = MOST_BITS;
-    let i = code as usize;
-    if most[i] < count {
-        return false;
-    }
-    value >> count == 0
-}
-
-// Whether address, position and DATA are zero, or the phase can have them.
-fn rest_right(code: u8, at: u8, position: u8, line: u8) -> bool
-    ensures { λ r. ⌜ r ≡ restRight code at position line ⌝ }
-{
-    if code == 4 {
-        return true;
-    }
-    if code == 5 {
-        return true;
-    }
-    if at != 0 {
-        return false;
-    }
-    if position != 0 {
-        return false;
-    }
-    line == 0
-}
-
-// Whether the frame's bytes are in range and go together.
-fn frame_right(lines: u8, code: u8, count: u8, value: u16, at: u8, position: u8, line: u8) -> bool
-    ensures { λ r. ⌜ r ≡ frameRight lines code count value at position line ⌝ }
-{
-    if !in_range(lines, at, position, line) {
-        return false;
-    }
-    if !goes_with_cs(lines, code) {
-        return false;
-    }
-    if !bits_right(code, count, value) {
-        return false;
-    }
-    rest_right(code, at, position, line)
-}
-
 // The value of the unfinished bits, low byte first.
 fn value_from(low: u8, high: u8) -> u16
     ensures { λ r. ⌜ r ≡ low + 256 * high ⌝ }
@@ -268,7 +192,7 @@ pub fn holds_frame(bytes: &[u8]) -> bool
         return false;
     }
     let value = value_from(bytes[35], bytes[36]);
-    frame_right(
+    right::frame_right(
         bytes[FRAME_AT],
         bytes[33],
         bytes[34],
@@ -293,7 +217,7 @@ pub fn frame_in(bytes: &[u8]) -> FrameRead
     let at = bytes[37];
     let position = bytes[38];
     let data = bytes[DATA_AT];
-    if !frame_right(lines, code, count, value, at, position, data) {
+    if !right::frame_right(lines, code, count, value, at, position, data) {
         return FrameRead::NoFrame;
     }
     let PhaseRead::Phased(phase) = phase_of(code, count, value, at, position) else {

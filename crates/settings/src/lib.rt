@@ -5,8 +5,10 @@ ghost use lib.ListN.{length};
 ghost use Rattle.ground.specs.Sizes.{recordLength};
 ghost use Rattle.ground.specs.Outcomes.{writtenAs};
 ghost use Rattle.settings.specs.Numbers.{pitchNumber, irqSourceNumber};
-ghost use Rattle.settings.specs.Selections.{sourceRead, biasRead, commonsRead, pitchRead, irqSourceRead};
 ghost use Rattle.settings.specs.Bytes.{settingsInRange, settingsOf, selectionsRead, settingsRead, settingsOver, countersOver};
+
+mod codes; // codes.rt: coded bytes, each read to a case
+
 use clock::BaseCounter;
 use clock::Counters;
 use clock::Divider;
@@ -145,64 +147,6 @@ pub enum SettingsRead {
     NoSettings,
 }
 
-// Byte 41.
-fn source_of(code: u8) -> SourceRead
-    ensures { λ r. ⌜ r ≡ sourceRead code ⌝ }
-{
-    match code {
-        0 => SourceRead::From(Source::Xtal),
-        1 => SourceRead::From(Source::Rc),
-        2 => SourceRead::From(Source::Ext),
-        _ => SourceRead::NoSource,
-    }
-}
-
-// Byte 43.
-fn bias_of(code: u8) -> BiasRead
-    ensures { λ r. ⌜ r ≡ biasRead code ⌝ }
-{
-    match code {
-        2 => BiasRead::Biased(Bias::Half),
-        3 => BiasRead::Biased(Bias::Third),
-        _ => BiasRead::NoBias,
-    }
-}
-
-// Byte 44.
-fn commons_of(code: u8) -> CommonsRead
-    ensures { λ r. ⌜ r ≡ commonsRead code ⌝ }
-{
-    match code {
-        2 => CommonsRead::Has(Commons::Two),
-        3 => CommonsRead::Has(Commons::Three),
-        4 => CommonsRead::Has(Commons::Four),
-        _ => CommonsRead::NoCommons,
-    }
-}
-
-// Byte 46.
-fn pitch_of(code: u8) -> PitchRead
-    ensures { λ r. ⌜ r ≡ pitchRead code ⌝ }
-{
-    match code {
-        4 => PitchRead::Sounds(Pitch::FourK),
-        2 => PitchRead::Sounds(Pitch::TwoK),
-        _ => PitchRead::NoPitch,
-    }
-}
-
-// Byte 50.
-fn irq_source_of(code: u8) -> IrqSourceRead
-    ensures { λ r. ⌜ r ≡ irqSourceRead code ⌝ }
-{
-    match code {
-        0 => IrqSourceRead::Of(IrqSource::Neither),
-        1 => IrqSourceRead::Of(IrqSource::TimeBase),
-        2 => IrqSourceRead::Of(IrqSource::Flag),
-        _ => IrqSourceRead::NoIrqSource,
-    }
-}
-
 // The most that each of the settings' bytes can be.
 const MAXIMA: [u8; LENGTH] = [
     1, // 40 system
@@ -255,19 +199,19 @@ fn selections_in(bytes: &[u8]) -> SelectionsRead
     requires { ⌜ length (now bytes) ≡ recordLength ⌝ }
     ensures { λ r. ⌜ r ≡ selectionsRead (now (bytes .entry)) ⌝ }
 {
-    let SourceRead::From(source) = source_of(bytes[41]) else {
+    let SourceRead::From(source) = codes::source_of(bytes[41]) else {
         return SelectionsRead::NoSelections;
     };
-    let BiasRead::Biased(bias) = bias_of(bytes[43]) else {
+    let BiasRead::Biased(bias) = codes::bias_of(bytes[43]) else {
         return SelectionsRead::NoSelections;
     };
-    let CommonsRead::Has(commons) = commons_of(bytes[44]) else {
+    let CommonsRead::Has(commons) = codes::commons_of(bytes[44]) else {
         return SelectionsRead::NoSelections;
     };
-    let PitchRead::Sounds(pitch) = pitch_of(bytes[46]) else {
+    let PitchRead::Sounds(pitch) = codes::pitch_of(bytes[46]) else {
         return SelectionsRead::NoSelections;
     };
-    let IrqSourceRead::Of(irq) = irq_source_of(bytes[50]) else {
+    let IrqSourceRead::Of(irq) = codes::irq_source_of(bytes[50]) else {
         return SelectionsRead::NoSelections;
     };
     SelectionsRead::Selected(source, bias, commons, pitch, irq)

@@ -1,8 +1,8 @@
--- `phases::in_range` meets its contract: the first byte out of range decides, or the last. Assumes nothing.
+-- `phases::right::in_range` meets its contract: the first byte out of range decides, or the last. Assumes nothing.
 use borrow.Author.Tests.{lt-leb, le-leb, lt-ltb, le-ltb}
 use Rattle.phases.specs.Frame.{inRange}
-use Rattle.phases.proofs.in_range.Statement.{statement}
-use Rattle.phases.proofs.in_range.Tie as tie
+use Rattle.phases.proofs.right.in_range.Statement.{statement}
+use Rattle.phases.proofs.right.in_range.Tie as tie
 
 returns : tie.Need-returns
 unfolding inRange

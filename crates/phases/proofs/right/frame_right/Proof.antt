@@ -1,10 +1,10 @@
--- `phases::frame_right` meets its contract: the first test that fails decides, or the last. Assumes nothing.
+-- `phases::right::frame_right` meets its contract: the first test that fails decides, or the last. Assumes nothing.
 use mathlib.Core.Path.{_∙_, sym}
 use borrow.Author.Tests.{not-true, not-false}
 use Rattle.phases.specs.Frame.{frameRight}
 use borrow.Author.Needs.{needs}
-use Rattle.phases.proofs.frame_right.Statement.{statement}
-use Rattle.phases.proofs.frame_right.Tie as tie
+use Rattle.phases.proofs.right.frame_right.Statement.{statement}
+use Rattle.phases.proofs.right.frame_right.Tie as tie
 
 in-range-requires : tie.Need-in-range-requires
 in-range-requires c κs = search needs

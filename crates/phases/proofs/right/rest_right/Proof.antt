@@ -1,8 +1,8 @@
--- `phases::rest_right` meets its contract. Assumes nothing.
+-- `phases::right::rest_right` meets its contract. Assumes nothing.
 use borrow.Author.Tests.{eq-eqb, ne-eqb}
 use Rattle.phases.specs.Frame.{restRight}
-use Rattle.phases.proofs.rest_right.Statement.{statement}
-use Rattle.phases.proofs.rest_right.Tie as tie
+use Rattle.phases.proofs.right.rest_right.Statement.{statement}
+use Rattle.phases.proofs.right.rest_right.Tie as tie
 
 returns : tie.Need-returns
 unfolding restRight

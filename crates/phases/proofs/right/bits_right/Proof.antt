@@ -1,11 +1,11 @@
--- `phases::bits_right` meets its contract: a value shifted out by its count is below the power. Assumes nothing.
+-- `phases::right::bits_right` meets its contract: a value shifted out by its count is below the power. Assumes nothing.
 use borrow.Author.Tests.{lt-leb, le-leb}
 use native.Mathlib.Omega.{arith}
 use Rattle.phases.specs.Frame.{bitsRight}
 use Rattle.phases.proofs.FrameLaws.{most-small, below-power}
 use borrow.Author.Needs.{needs}
-use Rattle.phases.proofs.bits_right.Statement.{statement}
-use Rattle.phases.proofs.bits_right.Tie as tie
+use Rattle.phases.proofs.right.bits_right.Statement.{statement}
+use Rattle.phases.proofs.right.bits_right.Tie as tie
 
 returns : tie.Need-returns
 unfolding bitsRight

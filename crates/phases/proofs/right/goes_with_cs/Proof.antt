@@ -1,8 +1,8 @@
--- `phases::goes_with_cs` meets its contract. Assumes nothing.
+-- `phases::right::goes_with_cs` meets its contract. Assumes nothing.
 use borrow.Author.Tests.{eq-eqb, ne-eqb}
 use Rattle.phases.specs.Frame.{goesWithCs}
-use Rattle.phases.proofs.goes_with_cs.Statement.{statement}
-use Rattle.phases.proofs.goes_with_cs.Tie as tie
+use Rattle.phases.proofs.right.goes_with_cs.Statement.{statement}
+use Rattle.phases.proofs.right.goes_with_cs.Tie as tie
 
 returns : tie.Need-returns
 unfolding goesWithCs
