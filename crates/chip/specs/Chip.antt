@@ -43,6 +43,7 @@ settingsAfter (Answered answer) settings = settings
 settingsAfter (Nibble at nibble) settings = settings
 settingsAfter (Code code) settings = obeyedAs (codeMeaning (2 * code)) settings
 
+-- The chip after a sample, by what the sample made of its port.
 abbrev pub steppedAs : Chip → Moved → Stepped
 steppedAs chip result =
     record {
@@ -50,6 +51,7 @@ steppedAs chip result =
       answer = told (result .upshot);
     }
 
+-- The same where a code is complete.
 abbrev pub commanded : Port → Settings → ℕ → Stepped
 commanded port settings code =
     steppedAs (record { port = port; settings = settings }) (record { port = port; upshot = Code code })

@@ -18,6 +18,7 @@ use Rattle.chip.specs.Chip.{stepped, advanced}
 use Rattle.chip.specs.Valid.{Valid}
 use Rattle.chip.proofs.ValidLaws.{stepped-valid, refused-keeps, advanced-valid}
 use Rattle.ground.specs.Written.{byte}
+use Rattle.phases.specs.Frame.{frameAt}
 use Rattle.state.specs.Record.{tailOf, recordOf}
 use Rattle.state.proofs.BytesLaws.{byte-past}
 use Rattle.state.proofs.ChipLaws.{chip-valid, chip-again}
@@ -31,14 +32,14 @@ use Rattle.demands.proofs.Ports.{Sixteen}
 -- ---- the bytes of a valid chip
 
 module _ (c : Chip) (v : Valid c) where
-  lines-byte : levels (byte (recordOf c) 32) ≡ c .port .levels
+  lines-byte : levels (byte (recordOf c) frameAt) ≡ c .port .levels
   unfolding tailOf
   lines-byte = ap levels (byte-past c (v .port .size) 0) ∙ levels-back (c .port .levels)
 
-  pub cs-byte : levels (byte (recordOf c) 32) .cs ≡ c .port .levels .cs
+  pub cs-byte : levels (byte (recordOf c) frameAt) .cs ≡ c .port .levels .cs
   cs-byte = ap (λ (l : Levels). l .cs) lines-byte
 
-  rd-byte : levels (byte (recordOf c) 32) .rd ≡ c .port .levels .rd
+  rd-byte : levels (byte (recordOf c) frameAt) .rd ≡ c .port .levels .rd
   rd-byte = ap (λ (l : Levels). l .rd) lines-byte
 
   pub count-byte : byte (recordOf c) 34 ≡ unfinished (c .port .phase)

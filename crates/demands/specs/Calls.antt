@@ -8,6 +8,7 @@ use lib.Dec.{eqb}
 use lib.ListN.{replicate}
 use Rattle.ground.specs.Bits.{bitAt}
 use Rattle.ground.specs.Written.{byte}
+use Rattle.phases.specs.Frame.{frameAt, dataAt}
 use Rattle.state.specs.Record.{recordValid}
 use Rattle.simulator.specs.Simulator.{stepReturns, stepBytes, advanceBytes}
 use Rattle.demands.specs.Events.{Event, sample, tick, samples, ticks}
@@ -55,7 +56,7 @@ abbrev pub noted : List ℕ → List Call → List ℕ
 noted bytes [] = []
 noted bytes (step s ∷ calls) =
     let next = called bytes (step s) in
-    cond (not (bitAt 2 (byte bytes 32)) && eqb s 14) (dataNoted (byte next 39) ∷ noted next calls) (noted next calls)
+    cond (not (bitAt 2 (byte bytes frameAt)) && eqb s 14) (dataNoted (byte next dataAt) ∷ noted next calls) (noted next calls)
 noted bytes (advance n ∷ calls) = noted (called bytes (advance n)) calls
 
 -- A valid record stays valid, whatever is called.

@@ -9,6 +9,7 @@ use lib.Seq.{paste}
 use Rattle.ground.specs.Bits.{bitAt, bitNumber}
 use Rattle.ground.specs.Sizes.{addresses}
 use Rattle.ground.specs.Written.{byte}
+use Rattle.phases.specs.Frame.{frameAt}
 use Rattle.settings.specs.Bytes.{settingsAt, settingsBytes, settingsOf}
 use Rattle.state.specs.Record.{recordValid}
 use Rattle.simulator.specs.Simulator.{advanceBytes}
@@ -24,7 +25,7 @@ use Rattle.demands.specs.Calls.{Call, afterCalls, eventsOf, sent, passed
 -- The first closes what stood open: nothing where CS was high (byte 32), otherwise a frame with unfinished bits or without
 -- (byte 34). The second opens a frame.
 abbrev pub openingReturns : List ℕ → List ℕ
-openingReturns bytes = cond (eqb (byte bytes 32 % 2) 1) 0 (cond (eqb (byte bytes 34) 0) 2 3) ∷ 1 ∷ []
+openingReturns bytes = cond (eqb (byte bytes frameAt % 2) 1) 0 (cond (eqb (byte bytes 34) 0) 2 3) ∷ 1 ∷ []
 
 -- Some sent bits that complete nothing: each is taken at the second of its samples.
 abbrev pub bitReturns : ℕ → List ℕ

@@ -10,7 +10,6 @@ use Rattle.phases.specs.declared.Phase.{Phase}
 use Rattle.phases.specs.declared.Phase.the-variants.{Idle, Ident, ReadTo, WriteTo, Reading, Writing, Command, Dead}
 use Rattle.phases.specs.declared.Line.{Line}
 use Rattle.phases.specs.declared.Line.the-variants.{Released, Driven}
-use Rattle.answers.specs.declared.Answer.{Answer}
 use Rattle.answers.specs.declared.Answer.the-variants.{Nothing, Opened, Closed, Dropped, Taken, Offered, Stray, Unknown, Clash}
 use Rattle.frames.specs.declared.Upshot.{Upshot}
 use Rattle.frames.specs.declared.Upshot.the-variants.{Answered, Nibble, Code}
@@ -18,6 +17,7 @@ use Rattle.frames.specs.declared.Framed.{Framed}
 use Rattle.phases.specs.Phases.{round}
 use Rattle.phases.specs.Phases.{unfinished}
 
+-- A frame after a sample, by its parts.
 abbrev pub framed : Phase → Line → Upshot → Framed
 framed phase line upshot = record { phase = phase; line = line; upshot = upshot }
 

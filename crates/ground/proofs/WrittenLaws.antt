@@ -85,6 +85,11 @@ paste-next buffer bytes now i e room more =
     ∙ paste-suc buffer 0 bytes i 0 (omega arith) more
     ∙ ap (paste buffer 0 bytes) (sym (add-one i))
 
+-- a write leaves the buffer as long as it was
+pub wrote-length : {before bytes after : List ℕ} {at next : ℕ} → Wrote before at bytes after next
+    → at + length bytes ≤ length before → length after ≡ length before
+wrote-length {before} {bytes} {after} {at} {next} w h = ap length (w .buffer) ∙ length-over before bytes at h
+
 -- a list as long as the buffer fills it
 pub paste-whole : (buffer bytes : List ℕ) (i : ℕ) → length buffer ≤ i → length bytes ≤ i → paste buffer 0 bytes i ≡ bytes
 paste-whole buffer bytes i full all =

@@ -13,7 +13,7 @@ use Rattle.ground.specs.declared.Refusal.{Refusal}
 use Rattle.ground.specs.declared.Refusal.the-variants.{OutputShort, NibbleAbove, MemoryCount}
 use Rattle.ground.specs.declared.Outcome.{Outcome}
 use Rattle.ground.specs.declared.Outcome.the-variants.{Written, Refused}
-use Rattle.ground.specs.Sizes.{recordLength}
+use Rattle.ground.specs.Sizes.{addresses, recordLength}
 use Rattle.ground.specs.Outcomes.{left, ComesTo, writtenAs}
 use Rattle.ground.specs.Places.{lowest, somewhere}
 use Rattle.power.specs.declared.PoweredOn.{PoweredOn}
@@ -45,12 +45,12 @@ record Started (powered : PoweredOn) : Type 0 where
   place : startPlace (powered .answer) ≤ 128
   valid : Valid (powered .chip)
 
-fresh-valid : (memory : List ℕ) → length memory ≡ 32 → length memory ≤ lowest (ltb 15) memory → Valid (freshChip memory)
+fresh-valid : (memory : List ℕ) → length memory ≡ addresses → length memory ≤ lowest (ltb 15) memory → Valid (freshChip memory)
 fresh-valid memory size low = freshChip-valid memory size (nibbles-from memory (none-above 15 memory low))
 
 -- a memory that is not refused with 29
-of-32 : (memory : List ℕ) → not (eqb (length memory) 32) ≡ false → length memory ≡ 32
-of-32 memory e = eqb-true (length memory) 32 (by (eqb (length memory) 32) e)
+counted : (memory : List ℕ) → not (eqb (length memory) addresses) ≡ false → length memory ≡ addresses
+counted memory e = eqb-true (length memory) addresses (by (eqb (length memory) addresses) e)
   where
     by : (b : Bool) → not b ≡ false → b ≡ true
     by true e = refl
@@ -59,9 +59,9 @@ of-32 memory e = eqb-true (length memory) 32 (by (eqb (length memory) 32) e)
 started : (memory : List ℕ) → Started (poweredOn memory)
 unfolding poweredOn emptyChip
 started memory =
-    let empty : Valid (freshChip (replicate 32 0)) = fresh-valid (replicate 32 0) refl (omega arith) in
-    by-cases Started (not (eqb (length memory) 32)) (λ other. record { place = omega arith; valid = empty })
-    (λ long. let size = of-32 memory long in
+    let empty : Valid (freshChip (replicate addresses 0)) = fresh-valid (replicate addresses 0) refl (omega arith) in
+    by-cases Started (not (eqb (length memory) addresses)) (λ other. record { place = omega arith; valid = empty })
+    (λ long. let size = counted memory long in
     by-cases Started (somewhere (ltb 15) memory)
     (λ above. record { place = omega (arith, size, place-within (ltb 15) memory); valid = empty })
     (λ low. record { place = omega arith; valid = fresh-valid memory size (ltb-false _ _ low) }))
@@ -85,7 +85,7 @@ recordFitted room = cond (ltb room recordLength) (Refused OutputShort) (Written 
 power-on-due : (memory : List ℕ) (room : ℕ)
     → powerOnAnswer memory room ≡ whereOn (poweredOn memory .answer) (recordFitted room)
 unfolding powerOnAnswer poweredOn
-power-on-due memory room = by (not (eqb (length memory) 32)) (somewhere (ltb 15) memory)
+power-on-due memory room = by (not (eqb (length memory) addresses)) (somewhere (ltb 15) memory)
   where
     by : (other above : Bool)
         → cond other (Refused MemoryCount) (cond above (Refused (NibbleAbove (lowest (ltb 15) memory))) (recordFitted room))
@@ -133,5 +133,5 @@ power-on-small memory room =
     ladder-small (recordRefusals memory room) recordLength (
       omega arith,
       λ long.
-          (omega (arith, of-32 memory long, place-within (ltb 15) memory), λ clean. (omega arith, λ fits. omega arith)),
+          (omega (arith, counted memory long, place-within (ltb 15) memory), λ clean. (omega arith, λ fits. omega arith)),
     )

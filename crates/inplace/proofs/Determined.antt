@@ -16,8 +16,8 @@ use denote.Triple.Entry.{Args}
 use Rattle.ground.specs.Determined.{Determined}
 use Rattle.answers.specs.declared.Answer.{Answer}
 use Rattle.inplace.proofs.step_in_place as step-in-place
-use Rattle.inplace.proofs.via_place.Kinds as via-place-kinds
-use Rattle.inplace.proofs.via_place.Reads as via-place-reads
+use Rattle.inplace.proofs.step_by_lending.Kinds as step-by-lending-kinds
+use Rattle.inplace.proofs.step_by_lending.Reads as step-by-lending-reads
 
 -- Rattle reads no plain statement off a contract that lends a struct, so the rule is stated of the contract's own clause, in
 -- every model: two ends that it permits for the same arguments say together that the answers returned are equal, and that the
@@ -33,5 +33,5 @@ step-in-place-determined 𝓤 H A at-mem run κs args x y end end' =
     fact-use 𝓤 _ (both-say 𝓤 H A _ _ (id⊢ 𝓤 _) (id⊢ 𝓤 _))
     (λ both. factI 𝓤 _ _ (both .0 .1 ∙ sym (both .1 .1), both .0 .0 ∙ sym (both .1 .0)))
 
-pub via-place-determined : Determined 0 via-place-kinds.ps via-place-kinds.r via-place-reads.Post
-via-place-determined κs args x y end end' p q = p ∙ sym q
+pub step-by-lending-determined : Determined 0 step-by-lending-kinds.ps step-by-lending-kinds.r step-by-lending-reads.Post
+step-by-lending-determined κs args x y end end' p q = p ∙ sym q

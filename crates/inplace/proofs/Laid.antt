@@ -1,4 +1,4 @@
--- What the walks of `step_in_place` and `via_place` know of a chip and of an answer in memory, and no more: that each is one
+-- What the walks of `step_in_place` and `step_by_lending` know of a chip and of an answer in memory, and no more: that each is one
 -- machine value of one type, and owns only facts. The layout is a parameter of the walks, so that they are checked without
 -- unfolding it, and stay as they are when a field of the chip or a variant of the answer changes. Assumes nothing.
 use mathlib.Core.List.{[], _∷_, List}

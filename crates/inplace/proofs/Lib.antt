@@ -3,4 +3,4 @@ pub mod Contracts
 pub mod Determined
 pub mod InPlace
 pub mod Laid
-pub mod ViaPlace
+pub mod ByLending

@@ -16,7 +16,7 @@ pub fn step_in_place(chip: &mut Chip, sample: u8) -> Answer
 }
 
 // A sample on a chip by value, which is lent to `step_in_place` and handed back: for whoever keeps no chip of its own.
-pub fn via_place(chip: Chip, sample: u8) -> Stepped
+pub fn step_by_lending(chip: Chip, sample: u8) -> Stepped
     ensures { λ r. ⌜ r ≡ stepped chip sample ⌝ }
 {
     let mut standing = chip;

@@ -252,7 +252,7 @@ module _ (b : List ℕ) (fits : frameFits b ≡ true) where
   has : FrameHas (byte b frameAt) (byte b 33) (byte b 34) (valueIn b) (byte b 37) (byte b 38) (byte b dataAt)
   has = fits-has b fits
 
-  value-small : valueIn b < 256
+  pub value-small : valueIn b < 256
   value-small = bits-small (byte b 34) (valueIn b) (omega (arith, has .most, most-small (byte b 33))) (has .small)
 
   value-low : valueIn b % 256 ≡ byte b 35

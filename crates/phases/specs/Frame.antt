@@ -6,7 +6,7 @@ use mathlib.Core.List.{List, [], _∷_}
 use lib.Dec.{ltb, leb, eqb}
 use lib.ListN.{length, getD}
 use Rattle.ground.specs.Sizes.{addresses, recordLength}
-use Rattle.ground.specs.Codes.{readBy, caseOf}
+use Rattle.ground.specs.Codes.{readBy}
 use Rattle.ground.specs.Outcomes.{leftFrom, writtenAs}
 use Rattle.ground.specs.Written.{byte}
 use Rattle.lines.specs.declared.Levels.{Levels}
@@ -28,7 +28,7 @@ abbrev pub frameAt : ℕ
 frameAt = addresses
 
 abbrev pub dataAt : ℕ
-dataAt = 39
+dataAt = frameAt + 7
 
 -- ---- as bytes
 
@@ -78,6 +78,7 @@ phaseRead code count value at position =
     ∷ Command count value ∷ Dead ∷ [])
     code
 
+-- The phase that was read; where there is none, that of no frame stands for it.
 abbrev pub phaseIn : PhaseRead → Phase
 phaseIn (Phased phase) = phase
 phaseIn NoPhase = Idle
@@ -86,6 +87,7 @@ phaseIn NoPhase = Idle
 unfoldable pub lineRead : ℕ → LineRead
 lineRead code = readBy Data NoLine lineNumber (Released ∷ Driven false ∷ Driven true ∷ []) code
 
+-- What was read of DATA; released stands for none.
 abbrev pub lineIn : LineRead → Line
 lineIn (Data line) = line
 lineIn NoLine = Released

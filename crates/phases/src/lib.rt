@@ -18,7 +18,7 @@ pub const ROUND: u16 = ground::ADDRESSES as u16;
 // Where a record has the frame's bytes, and DATA, the last of them.
 pub const FRAME_AT: usize = ground::ADDRESSES;
 
-pub const DATA_AT: usize = 39;
+pub const DATA_AT: usize = FRAME_AT + 7;
 
 // Where a frame stands. What comes in bit by bit has a count of the bits so far and their value, the first bit highest.
 pub enum Phase {

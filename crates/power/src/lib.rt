@@ -31,7 +31,7 @@ fn fresh(memory: [u8; ADDRESSES]) -> Chip
             phase: Phase::Idle,
             line: Line::Released,
         },
-        settings: rules::power_on(),
+        settings: rules::at_power_on(),
     }
 }
 

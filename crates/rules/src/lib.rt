@@ -223,7 +223,7 @@ pub fn obeyed(settings: Settings, command: Command) -> Settings
 }
 
 // The settings at power-on.
-pub fn power_on() -> Settings
+pub fn at_power_on() -> Settings
     ensures { λ r. ⌜ r ≡ powerOn ⌝ }
 {
     let timer = Timer {

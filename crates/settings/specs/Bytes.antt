@@ -1,10 +1,10 @@
 -- 01 "State record and simulator", bytes 40 to 63: the settings' bytes in one list, and what follows from it. Assumes nothing.
-use Prim.Native.Nat.{ℕ}
+use Prim.Native.Nat.{ℕ, _+_}
 use mathlib.Core.Bool.{Bool, cond, _&&_}
 use mathlib.Core.List.{List, [], _∷_, _++_, map}
 use lib.Dec.{eqb}
 use lib.ListN.{length, drop}
-use Rattle.ground.specs.Sizes.{recordLength}
+use Rattle.ground.specs.Sizes.{addresses, recordLength}
 use Rattle.ground.specs.Ranges.{upTo}
 use Rattle.ground.specs.Outcomes.{leftFrom, writtenAs}
 use Rattle.clock.specs.Sizes.{prescalerSize, tonerSize, dividerSize, baseSize, watchdogSize}
@@ -21,12 +21,12 @@ use Rattle.settings.specs.Settings.{systemTo, sourceTo, lcdTo, displayTo
 use Rattle.settings.specs.Selections.{sources, biases, commonses, pitches, irqSources}
 use Rattle.settings.specs.Fields.{Field, switch, count, selection, spare, bytesOf, maxima, allKnown, readFrom}
 
--- Where a record has the settings' bytes, and the counters among them.
+-- Where a record has the settings' bytes, after the memory and the frame's eight, and the counters among them.
 abbrev pub settingsAt : ℕ
-settingsAt = 40
+settingsAt = addresses + 8
 
 abbrev pub countersAt : ℕ
-countersAt = 51
+countersAt = settingsAt + 11
 
 -- ---- the list
 

@@ -2,7 +2,7 @@
 -- that right bytes say. Assumes nothing.
 use Prim.Native.Nat.{ℕ, suc, _-_, max}
 use mathlib.Core.Bool.{Bool, true, _&&_}
-use mathlib.Core.List.{List, [], _∷_, map}
+use mathlib.Core.List.{List, [], _∷_}
 use lib.Dec.{eqb}
 use Rattle.ground.specs.Bits.{bitNumber}
 use Rattle.ground.specs.Codes.{isCode, caseOf}

@@ -24,9 +24,9 @@ use ground::RECORD_LENGTH;
 use ground::Refusal;
 
 // Where a record has the settings' bytes, and the counters among them.
-pub const SETTINGS_AT: usize = 40;
+pub const SETTINGS_AT: usize = ground::ADDRESSES + 8;
 
-pub const COUNTERS_AT: usize = 51;
+pub const COUNTERS_AT: usize = SETTINGS_AT + 11;
 
 // The system oscillator.
 pub struct System {

@@ -15,7 +15,7 @@ use Rattle.clock.specs.declared.Source.{Source}
 use Rattle.clock.specs.declared.Source.the-variants.{Xtal, Rc, Ext}
 use Rattle.clock.specs.Numbers.{sourceNumber}
 use Rattle.phases.specs.Frame.{valueIn}
-use Rattle.phases.proofs.FrameLaws.{fits-has, most-small}
+use Rattle.phases.proofs.FrameLaws.{value-small}
 use Rattle.settings.specs.declared.Settings.{Settings}
 use Rattle.settings.specs.Bytes.{settingsBytes, settingsOf}
 use Rattle.ticks.specs.Ticks.{isExt, running}
@@ -49,11 +49,8 @@ module _ (b : List ℕ) (valid : recordValid b ≡ true) where
   settings-said = ap (drop 40) bytes-spelt
 
   -- eight unfinished bits are the most
-  pub value-small : valueIn b < 256
-  value-small =
-      let frame = fits-has b (valid-has b valid .frame) in
-      let eight : byte b 34 ≤ 8 = omega (arith, frame .most, most-small (byte b 33)) in
-      lt-of-lt-of-le (frame .small) (pow-mono eight)
+  pub bits-small : valueIn b < 256
+  bits-small = value-small b (valid-has b valid .frame)
 
 -- Running, by the bytes and by the settings that they say.
 pub runs-running : (b : List ℕ) (s : Settings) → runs (spelt b s) ≡ running s

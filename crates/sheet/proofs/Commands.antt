@@ -37,7 +37,7 @@ use Rattle.simulator.specs.Simulator.{answerCode, stepReturns, stepBytes}
 use Rattle.state.proofs.BytesLaws.{settings-bytes}
 use Rattle.sheet.specs.Bytes.{byte}
 use Rattle.sheet.specs.Commands.{defined, effectOf, NinthBit, CommandsSheet}
-use Rattle.sheet.proofs.BytesLaws.{bytes-spelt, settings-said, value-small}
+use Rattle.sheet.proofs.BytesLaws.{bytes-spelt, settings-said, bits-small}
 use Rattle.sheet.proofs.CommandsLaws.{effect-same, defined-same, code-taken, code-meaning, code-told}
 use Rattle.sheet.proofs.NinthBitLaws.{first-bit, edge-takes, takes-only, frame-keeps}
 
@@ -71,10 +71,10 @@ module _ (b : List ℕ) (sample : ℕ) (valid : recordValid b ≡ true) where
 
   module _ (ninth : NinthBit b sample) where
     value-code : valueIn b ≡ byte b 35
-    value-code = omega (arith, value-small b valid)
+    value-code = omega (arith, bits-small b valid)
 
     code-small : byte b 35 < 256
-    code-small = omega (arith, value-small b valid)
+    code-small = omega (arith, bits-small b valid)
 
     commanding : c .port .phase ≡ Command 8 (byte b 35)
     unfolding chipOf phaseRead

@@ -35,7 +35,7 @@ use Rattle.state.proofs.TripLaws.{valid-has}
 use Rattle.simulator.specs.Simulator.{answerCode}
 use Rattle.sheet.specs.Bytes.{byte}
 use Rattle.sheet.specs.Frames.{OnlyLevels, Leaves, due, Offers, bits, withBit, beforeLast, identified, nibbleOf, oneMore, Completes, Takes}
-use Rattle.sheet.proofs.BytesLaws.{value-small}
+use Rattle.sheet.proofs.BytesLaws.{bits-small}
 use Rattle.sheet.proofs.FramesLaws.{frameLeft, phase-at, code-said, low-said, high-said, address-said, position-said, read-frame, stray-fall, ident-made}
 use Rattle.sheet.proofs.SamplesLaws.{tells, stores, leaves, port-left, only, framed-by}
 
@@ -93,11 +93,11 @@ module _ (b : List ℕ) (valid : recordValid b ≡ true) (s : ℕ) (small : s �
   module _ (rise : edge (chipOf b .port .levels) (levels s) ≡ edges.Takes (bitAt 3 s)) where
     -- one more than eight bits fits into nine
     with-bit : model.more (bits b) (bitAt 3 s) ≡ withBit b s
-    with-bit = rw (bitNumber-bitAt 3 s) (mod-eq-of-lt (omega (arith, value-small b valid)))
+    with-bit = rw (bitNumber-bitAt 3 s) (mod-eq-of-lt (omega (arith, bits-small b valid)))
 
     -- the ninth is ignored
     upper-eight : withBit b s / 2 % 256 ≡ bits b
-    upper-eight = omega (arith, value-small b valid)
+    upper-eight = omega (arith, bits-small b valid)
 
     module _ (phase : Phase) (now : chipOf b .port .phase ≡ phase) where
       taken-by : framedBy (chipOf b .port) (levels s) ≡ model.taken (bitAt 3 s) phase (chipOf b .port .line)

@@ -27,7 +27,7 @@ use Rattle.state.specs.Record.{recordValid}
 use Rattle.state.proofs.TripLaws.{RecordHas, valid-has}
 use Rattle.sheet.specs.Bytes.{byte}
 use Rattle.sheet.specs.Ranges.{WellFormed, RangesSheet}
-use Rattle.sheet.proofs.BytesLaws.{spelt, bytes-spelt, value-small}
+use Rattle.sheet.proofs.BytesLaws.{spelt, bytes-spelt, bits-small}
 use Rattle.sheet.proofs.RangesLaws.{well-formed-valid}
 
 never : {A : Type 0} → false ≡ true → A
@@ -103,8 +103,8 @@ module _ (bytes : List ℕ) (valid : recordValid bytes ≡ true) where
         memory = nibble-at;
         lines = frame .lines-low;
         phase = frame .phase;
-        valueLow = omega (arith, value-small bytes valid);
-        valueHigh = omega (arith, value-small bytes valid);
+        valueLow = omega (arith, bits-small bytes valid);
+        valueHigh = omega (arith, bits-small bytes valid);
         address = omega (arith, frame .near);
         position = frame .one-of-4;
         line = frame .data-low;

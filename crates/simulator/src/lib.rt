@@ -74,7 +74,7 @@ pub extern "C" fn step(bytes: &mut [u8], sample: u8) -> u32
         return refused(Refusal::SampleAbove);
     }
     let chip = recalled.chip;
-    let done = inplace::via_place(chip, sample);
+    let done = inplace::step_by_lending(chip, sample);
     let answer = done.answer;
     let code = code_of(answer);
     let next = done.chip;

@@ -9,7 +9,7 @@ use native.Mathlib.Numerals.{add-one}
 use lib.ListN.{length, set, length-append, take-append-drop}
 use lib.Seq.{sets-eq}
 use Rattle.ground.specs.Written.{Wrote}
-use Rattle.ground.proofs.WrittenLaws.{length-over, set-over, wrote-none, wrote-then}
+use Rattle.ground.proofs.WrittenLaws.{length-over, set-over, wrote-none, wrote-then, wrote-length}
 
 -- two stores side by side
 pub wrote-pair : (buffer : List ℕ) (at low high : ℕ) → at + 2 ≤ length buffer
@@ -20,11 +20,6 @@ wrote-pair buffer at low high h = record { cursor = refl; buffer = rw add-one (s
 pub wrote-one : (buffer : List ℕ) (at byte : ℕ) → at + 1 ≤ length buffer
     → Wrote buffer at (byte ∷ []) (set buffer at byte) (at + 1)
 wrote-one buffer at byte h = record { cursor = refl; buffer = set-over buffer at byte (omega arith) }
-
--- a write leaves the buffer as long as it was
-pub wrote-length : {before bytes after : List ℕ} {at next : ℕ} → Wrote before at bytes after next
-    → at + length bytes ≤ length before → length after ≡ length before
-wrote-length {before} {bytes} {after} {at} {next} w h = ap length (w .buffer) ∙ length-over before bytes at h
 
 -- three and four writes, one after another
 module _ {a b c d : List ℕ} {x y z : List ℕ} {at k l m : ℕ} where

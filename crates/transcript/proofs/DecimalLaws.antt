@@ -62,11 +62,6 @@ pub length-field : (n after : ℕ) → length (field n after) ≤ 6
 unfolding field
 length-field n after = simp length-append (omega (arith, length-decimal n))
 
--- a write leaves the buffer as long as it was
-pub wrote-length : {a b : List ℕ} (bytes : List ℕ) {at k : ℕ} → Wrote a at bytes b k → at + length bytes ≤ length a
-    → length b ≡ length a
-wrote-length {a} {b} bytes {at} {k} w fits = ap length (w .buffer) ∙ length-over a bytes at fits
-
 -- the digits and then the byte that ends them
 pub field-wrote : {a b : List ℕ} {at k : ℕ} (n after : ℕ) {bytes : List ℕ} → digits 5 n ≡ bytes
     → Wrote a at (bytes ++ after ∷ []) b k → Wrote a at (field n after) b k

@@ -17,7 +17,7 @@ use Rattle.power.specs.PowerOn.{emptyChip}
 use Rattle.listed.specs.declared.Class.{Class}
 use Rattle.listed.specs.declared.Class.the-variants.{Sample, Tick, Skipped, Bad}
 use Rattle.listed.specs.Listing.{answerLine, badLine, endLine, classOf, lists, listFrom}
-use Rattle.transcript.proofs.DecimalLaws.{wrote-length}
+use Rattle.ground.proofs.WrittenLaws.{wrote-length}
 use Rattle.transcript.proofs.LineLaws.{length-answerLine, length-listFrom}
 
 -- The first i bytes of an input are listed in a buffer up to a cursor.
@@ -75,7 +75,7 @@ module _ {input before now : List ℕ} {chip : Chip} {at samples ticks i : ℕ}
         reach = omega arith;
         counted = omega (arith, g .counted);
         room = omega (arith, g .room, w .cursor);
-        same = wrote-length _ w (omega (arith, g .room, g .same)) ∙ g .same;
+        same = wrote-length w (omega (arith, g .room, g .same)) ∙ g .same;
         onward =
             λ after k v. g .onward after k
             (rw (decided (Sample value) more e)

@@ -9,6 +9,7 @@ use lib.ListN.{length, getD, set, length-map}
 use lib.Seq.{paste, paste-zero}
 use Rattle.ground.proofs.BitsLaws.{masked-at}
 use Rattle.ground.proofs.WrittenLaws.{paste-next, paste-whole}
+use Rattle.ground.specs.Sizes.{addresses}
 use Rattle.pins.proofs.under_mask.Statement.{statement}
 use Rattle.pins.proofs.under_mask.Tie as tie
 
@@ -16,10 +17,10 @@ abbrev masked : ℕ → List ℕ → List ℕ
 masked mask memory = map (λ n. bitAnd n mask) memory
 
 abbrev Inv-loop : tie.InvT-loop
-Inv-loop mask memory cells₀ i₀ cells i = (i ≤ 32) × (cells ≡ paste memory 0 (masked mask memory) i)
+Inv-loop mask memory cells₀ i₀ cells i = (i ≤ addresses) × (cells ≡ paste memory 0 (masked mask memory) i)
 
 abbrev μ-loop : tie.MeasureT-loop
-μ-loop mask memory cells₀ i₀ cells i = 32 - i
+μ-loop mask memory cells₀ i₀ cells i = addresses - i
 
 -- one cell more under the mask
 next : (mask : ℕ) (memory cells : List ℕ) (i : ℕ) → cells ≡ paste memory 0 (masked mask memory) i → i < length memory

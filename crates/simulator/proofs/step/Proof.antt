@@ -43,8 +43,8 @@ returns-2 c =
     (c .before .if1 .taken) in
     (c .refused2 .ensures ∙ due .0, due .1)
 
-via-place-requires : tie.Need-via-place-requires
-via-place-requires c κs = search needs
+step-by-lending-requires : tie.Need-step-by-lending-requires
+step-by-lending-requires c κs = search needs
 
 code-of-requires : tie.Need-code-of-requires
 code-of-requires c κs = search needs
@@ -68,7 +68,7 @@ returns-3 c =
     let read = told .before .before in
     let start = read .before .before .before in
     step-obeyed (start .args .bytes .now) (read .read .result) (read .read .ensures) (start .args .sample) (told .enum-told .given .1)
-    (taken .via-place .result) (coded .code-of .result) _ (low .if1 .left) (taken .via-place .ensures) (coded .code-of .ensures)
+    (taken .step-by-lending .result) (coded .code-of .result) _ (low .if1 .left) (taken .step-by-lending .ensures) (coded .code-of .ensures)
     (written .write .ensures .1)
 
 write-port-requires : tie.Need-write-port-requires
@@ -88,7 +88,7 @@ returns-4 c =
     let read = told .before .before in
     let start = read .before .before .before in
     step-kept (start .args .bytes .now) (read .read .result) (read .read .ensures) (start .args .sample) (told .enum-told .given .1)
-    (taken .via-place .result) (coded .code-of .result) _ (low .if1 .left) (taken .via-place .ensures) (coded .code-of .ensures)
+    (taken .step-by-lending .result) (coded .code-of .result) _ (low .if1 .left) (taken .step-by-lending .ensures) (coded .code-of .ensures)
     (other .match2 .keys2) (written .write-port .ensures .1)
 
 pub step-spec : {M : Type 1} → statement M
@@ -104,7 +104,7 @@ step-spec =
     refused-requires-2
     same-length-2
     returns-2
-    via-place-requires
+    step-by-lending-requires
     code-of-requires
     enum-told-3
     write-requires

@@ -1,4 +1,4 @@
--- The walk of `inplace::via_place`, for any layout of a chip and an answer (Laid.antt). The chip is copied to a local, the local is
+-- The walk of `inplace::step_by_lending`, for any layout of a chip and an answer (Laid.antt). The chip is copied to a local, the local is
 -- lent for a lifetime that is made for the call, and is read again once that has ended. All that it knows of the function called
 -- is that it meets its contract. Assumes nothing.
 use mathlib.Core.Path.{refl, ap, subst}
@@ -214,8 +214,8 @@ module _ (l : Layout) (Q : Known) (#g : Name) where
       goes : AllGo 𝓤 H A W 0 (valued-signature l .params) (valued l .kept) stayed
       goes = (goes-none 𝓤 H A W 0 (λ _. R) yes (λ κs x f. refl), (goes-none 𝓤 H A W 0 (λ _. u8) yes (λ κs x f. refl), tt))
 
-      pub via-place : (𝓣 : Tables 𝓤 H) → Triple 𝓤 (𝓣 .C #g) G
+      pub step-by-lending : (𝓣 : Tables 𝓤 H) → Triple 𝓤 (𝓣 .C #g) G
           → Meets 𝓤 H A (valued-signature l) (WpFn 𝓤 H (𝓣 .C) (𝓣 .Λ) (code #g l)) (closing 𝓤 H A (valued l) clauses)
-      via-place 𝓣 known =
+      step-by-lending 𝓣 known =
           walk-meets 𝓤 H A (valued l) stayed W goes clauses (WpFn 𝓤 H (𝓣 .C) (𝓣 .Λ) (code #g l))
           (WpFn-mono 𝓤 H (W .laws) 𝓣 (code #g l)) (walks (𝓣 .C) (𝓣 .Λ) (fmOf 𝓤 H (W .laws) 𝓣) known)
