@@ -4,11 +4,9 @@ use mathlib.Core.Path.{_≡_, _∙_, refl, sym, ap, ap₂}
 use mathlib.Core.Bool.{true, _||_}
 use mathlib.Core.List.{List, _++_}
 use Prim.Native.Nat.{ℕ, _+_, _≤_, _<_}
-use native.Mathlib.Nat.{lt-of-lt-of-le}
 use native.Mathlib.Omega.{arith}
 use lib.Dec.{eqb}
 use lib.ListN.{take, drop}
-use lib.Pow.{pow-mono}
 use Rattle.ground.proofs.BitsLaws.{bitNumber-back}
 use Rattle.ground.proofs.WrittenLaws.{gather, gathered}
 use Rattle.clock.specs.declared.Source.{Source}
