@@ -6,7 +6,7 @@ use mathlib.Core.List.{List, [], _∷_, _++_, map}
 use Prim.Native.Nat.{ℕ, zero, suc, _+_, _*_}
 use native.Mathlib.Nat.{add-zero}
 use lib.Dec.{eqb}
-use lib.ListN.{take, drop, replicate}
+use lib.ListN.{take, drop}
 use Rattle.ground.specs.Bits.{bitAt}
 use Rattle.ground.specs.Sizes.{addresses}
 use Rattle.settings.specs.declared.Settings.{Settings}

@@ -2,7 +2,7 @@
 -- phase, then by whether the bit is the last that the phase collects. Assumes nothing.
 use mathlib.Core.Path.{_≡_, refl}
 use mathlib.Core.Bool.{Bool, true, false, cond}
-use Prim.Native.Nat.{ℕ, _+_, _*_, _/_, _%_, _^_, _≤_, _<_}
+use Prim.Native.Nat.{ℕ, _+_, _*_, _^_, _<_}
 use native.Mathlib.Nat.{pow-suc, mod-le}
 use native.Mathlib.Numerals.{add-one}
 use native.Mathlib.Omega.{arith}
@@ -15,11 +15,10 @@ use Rattle.lines.specs.declared.Edge.the-variants.{Rests, Closes, Opens}
 use Rattle.phases.specs.declared.Phase.{Phase}
 use Rattle.phases.specs.declared.Phase.the-variants.{Idle, Ident, ReadTo, WriteTo, Reading, Writing, Command, Dead}
 use Rattle.phases.specs.declared.Line.{Line}
-use Rattle.phases.specs.declared.Line.the-variants.{Released, Driven}
 use Rattle.frames.specs.declared.Framed.{Framed}
 use Rattle.lines.specs.Samples.{clocked}
 use Rattle.frames.specs.Frames.{more, turned, identified, identTaken, readToTaken, writeToTaken, nibbleTaken, commandTaken, taken, readOffered, offered, closed, frame}
-use Rattle.phases.specs.Phases.{round, unfinished}
+use Rattle.phases.specs.Phases.{round}
 use Rattle.phases.specs.Valid.{FrameValid}
 use Rattle.frames.specs.Valid.{UpshotValid}
 

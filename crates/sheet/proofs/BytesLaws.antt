@@ -3,7 +3,7 @@
 use mathlib.Core.Path.{_≡_, _∙_, refl, sym, ap, ap₂}
 use mathlib.Core.Bool.{true, _||_}
 use mathlib.Core.List.{List, _++_}
-use Prim.Native.Nat.{ℕ, _+_, _≤_, _<_}
+use Prim.Native.Nat.{ℕ, _+_, _<_}
 use native.Mathlib.Omega.{arith}
 use lib.Dec.{eqb}
 use lib.ListN.{take, drop}
@@ -21,7 +21,7 @@ use Rattle.state.specs.Record.{portBytes, recordValid, recordOf, chipOf}
 use Rattle.state.proofs.BytesLaws.{port-bytes, record-parts}
 use Rattle.state.proofs.ChipLaws.{valid-chip}
 use Rattle.state.proofs.TripLaws.{valid-has, trip}
-use Rattle.sheet.specs.Bytes.{byte, runs}
+use Rattle.sheet.specs.Bytes.{runs}
 
 abbrev pub spelt : List ℕ → Settings → List ℕ
 spelt b s = gather 40 0 b ++ settingsBytes s

@@ -6,7 +6,7 @@ use Prim.Native.Nat.{ℕ, _+_, _≤_}
 use native.Mathlib.Omega.{arith}
 use lib.Dec.{ltb, eqb}
 use lib.ListN.{length, take, drop}
-use borrow.Author.Tests.{eqb-true, eq-eqb, le-ltb}
+use borrow.Author.Tests.{eqb-true, le-ltb}
 use Rattle.ground.specs.Sizes.{addresses, recordLength}
 use Rattle.ground.specs.Ranges.{upTo}
 use Rattle.ground.specs.declared.Refusal.the-variants.{OutputShort}
@@ -26,7 +26,8 @@ use Rattle.settings.specs.Bytes.{settingsAt, settingsBytes, settingsOver, setti
 use Rattle.port.specs.declared.Port.{Port}
 use Rattle.state.specs.declared.Recalled.{Recalled}
 use Rattle.state.specs.declared.Verdict.the-variants as verdict
-use Rattle.state.specs.Answers.{verdictNumber, settingsNumber, settingsIn, nothingRecalled, recalledFrom}
+use Rattle.settings.specs.Numbers.{settingsNumber}
+use Rattle.state.specs.Answers.{verdictNumber, settingsIn, nothingRecalled, recalledFrom}
 use Rattle.state.specs.Record.{portFrame, portBytes, memoryFits, recordValid, chipOf, recordOf}
 use Rattle.state.proofs.BytesLaws.{port-length, record-parts}
 

@@ -12,7 +12,7 @@ use Rattle.ground.proofs.ChoiceLaws.{each-of-4}
 use Rattle.ground.proofs.WrittenLaws.{gather, gathered}
 use Rattle.phases.specs.Frame.{frameAt, frameFits}
 use Rattle.phases.proofs.FrameLaws.{frame-trip}
-use Rattle.settings.specs.Bytes.{settingsAt, settingsBytes, settingsRight, settingsOf}
+use Rattle.settings.specs.Bytes.{settingsBytes, settingsRight, settingsOf}
 use Rattle.settings.proofs.BytesLaws.{settings-has, settings-trip}
 use Rattle.state.specs.Record.{memoryFits, recordValid, recordOf, tailOf, chipOf}
 

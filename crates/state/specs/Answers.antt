@@ -18,14 +18,10 @@ use Rattle.state.specs.declared.Verdict.{Verdict}
 use Rattle.state.specs.declared.Verdict.the-variants as verdict
 use Rattle.state.specs.Record.{portBytes, recordValid, recordOf, chipOf}
 
--- The paper's numbers: 0 for a valid record and for its settings, else the refusal's.
+-- The paper's number: 0 for a valid record, else the refusal's.
 abbrev pub verdictNumber : Verdict → ℕ
 verdictNumber verdict.Valid = 0
 verdictNumber verdict.Invalid = refusalNumber Malformed
-
-abbrev pub settingsNumber : SettingsRead → ℕ
-settingsNumber (Set settings) = 0
-settingsNumber NoSettings = refusalNumber Malformed
 
 -- 28: a record that is not valid has no settings.
 unfoldable pub settingsIn : List ℕ → SettingsRead

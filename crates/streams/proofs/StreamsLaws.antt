@@ -11,7 +11,7 @@ use Rattle.ground.specs.Values.{agree}
 use Rattle.streams.specs.Streams.{sendBits, readBit, closing, nibbleBits, commandBits}
 use Rattle.streams.specs.Streams.{sendNibbles, readNibbles, sendCommands}
 use Rattle.streams.specs.Streams.{writeStream, readStream, commandStream, nibbleOf, decoded, lowestBits}
-use Rattle.streams.specs.Lengths.{transferFrame, nibbleSamples, commandFrame, commandSamples, nibbleNotes}
+use Rattle.streams.specs.Lengths.{nibbleSamples, commandFrame, commandSamples, nibbleNotes}
 
 -- ---- lengths
 

@@ -4,12 +4,11 @@ use mathlib.Core.Path.{_≡_, _∙_, refl, sym, ap}
 use mathlib.Core.List.{List, [], _∷_, _++_, append-assoc, append-nil}
 use Prim.Native.Nat.{ℕ, _+_, _≤_}
 use native.Mathlib.Omega.{arith}
-use native.Mathlib.Nat.{add-zero}
 use native.Mathlib.Numerals.{add-one}
-use lib.ListN.{length, set, length-append, take-append-drop}
+use lib.ListN.{length, set, length-append}
 use lib.Seq.{sets-eq}
 use Rattle.ground.specs.Written.{Wrote}
-use Rattle.ground.proofs.WrittenLaws.{length-over, set-over, wrote-none, wrote-then, wrote-length}
+use Rattle.ground.proofs.WrittenLaws.{set-over, wrote-none, wrote-then, wrote-length}
 
 -- two stores side by side
 pub wrote-pair : (buffer : List ℕ) (at low high : ℕ) → at + 2 ≤ length buffer

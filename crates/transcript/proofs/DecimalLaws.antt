@@ -1,5 +1,5 @@
 -- Laws of decimal numbers: which digits one of each length has, and how long one is. Assumes nothing.
-use mathlib.Core.Path.{_≡_, refl, ap, _∙_}
+use mathlib.Core.Path.{_≡_, refl, ap}
 use mathlib.Core.Bool.{Bool, true, false}
 use mathlib.Core.List.{List, [], _∷_, _++_}
 use Prim.Native.Nat.{ℕ, zero, suc, _+_, _/_, _%_, _≤_, _<_}
@@ -8,7 +8,6 @@ use borrow.Author.Tests.{lt-ltb, le-ltb}
 use lib.Dec.{ltb}
 use lib.ListN.{length, length-append}
 use Rattle.ground.specs.Written.{Wrote}
-use Rattle.ground.proofs.WrittenLaws.{length-over}
 use Rattle.listed.specs.Listing.{digits, decimal, field}
 
 -- the digits of the tenth, and then the last

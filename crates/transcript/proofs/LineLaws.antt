@@ -2,12 +2,11 @@
 -- Assumes nothing.
 use mathlib.Core.Path.{_≡_, _∙_, refl, sym, ap}
 use mathlib.Core.Bool.{Bool, true, false, cond}
-use mathlib.Core.List.{List, [], _∷_, _++_, append-nil}
+use mathlib.Core.List.{List, [], _∷_, _++_}
 use Prim.Native.Nat.{ℕ, _+_, _*_, _≤_}
 use native.Mathlib.Omega.{arith}
-use native.Mathlib.Nat.{add-zero}
 use lib.Dec.{ltb, eqb}
-use lib.ListN.{length, take-append-drop, length-append}
+use lib.ListN.{length, length-append}
 use borrow.Author.Tests.{ltb-false, eq-eqb, ne-eqb}
 use Rattle.ground.specs.declared.Refusal.the-variants.{OutputShort}
 use Rattle.ground.specs.declared.Outcome.{Outcome}
@@ -18,7 +17,7 @@ use Rattle.ground.proofs.ChoiceLaws.{either, by-cases}
 use Rattle.ground.proofs.WrittenLaws.{wrote-none, wrote-then}
 use Rattle.answers.specs.declared.Answer.{Answer}
 use Rattle.answers.specs.declared.Numbers.{Numbers}
-use Rattle.answers.specs.Answers.{answerNumber, firstDetail, secondDetail, numbers}
+use Rattle.answers.specs.Answers.{answerNumber, numbers}
 use Rattle.chip.specs.declared.Chip.{Chip}
 use Rattle.chip.specs.Chip.{stepped, ticked}
 use Rattle.power.specs.PowerOn.{emptyChip}

@@ -1,5 +1,4 @@
 -- `answers::Answer::numbers` meets its contract. Assumes nothing.
-use borrow.Author.Tests.{lt-ltb, le-ltb, eq-eqb, ne-eqb}
 use borrow.Author.Needs.{needs}
 use Rattle.answers.proofs.Answer.numbers.Statement.{statement}
 use Rattle.answers.proofs.Answer.numbers.Tie as tie

@@ -1,5 +1,4 @@
 -- `port::Port::moved` meets its contract. Assumes nothing.
-use mathlib.Core.Path.{_∙_, sym}
 use Rattle.port.specs.Port.{memoryAfter, moved, framedBy}
 use borrow.Author.Needs.{needs}
 use Rattle.port.proofs.Port.moved.Statement.{statement}
