@@ -23,9 +23,28 @@ use Rattle.phases.specs.declared.FrameRead.{FrameRead}
 use Rattle.phases.specs.declared.FrameRead.the-variants.{Frame, NoFrame}
 use Rattle.phases.specs.Phases.{round, unfinished, address, phaseNumber, valueOf, positionOf, lineNumber}
 
--- Where a record has the frame's bytes, and DATA, the last of them.
+-- Where a record has the frame's bytes: the lines first, then the phase, its unfinished bits with their value, its address and
+-- its reading position, and DATA last.
 abbrev pub frameAt : ℕ
 frameAt = addresses
+
+abbrev pub codeAt : ℕ
+codeAt = frameAt + 1
+
+abbrev pub countAt : ℕ
+countAt = frameAt + 2
+
+abbrev pub lowAt : ℕ
+lowAt = frameAt + 3
+
+abbrev pub highAt : ℕ
+highAt = frameAt + 4
+
+abbrev pub addressAt : ℕ
+addressAt = frameAt + 5
+
+abbrev pub positionAt : ℕ
+positionAt = frameAt + 6
 
 abbrev pub dataAt : ℕ
 dataAt = frameAt + 7
@@ -96,13 +115,13 @@ lineIn NoLine = Released
 
 module _ (b : List ℕ) where
   abbrev pub valueIn : ℕ
-  valueIn = byte b 35 + 256 * byte b 36
+  valueIn = byte b lowAt + 256 * byte b highAt
 
   abbrev pub frameFits : Bool
-  frameFits = frameRight (byte b frameAt) (byte b 33) (byte b 34) valueIn (byte b 37) (byte b 38) (byte b dataAt)
+  frameFits = frameRight (byte b frameAt) (byte b codeAt) (byte b countAt) valueIn (byte b addressAt) (byte b positionAt) (byte b dataAt)
 
   abbrev pub phaseAt : PhaseRead
-  phaseAt = phaseRead (byte b 33) (byte b 34) valueIn (byte b 37) (byte b 38)
+  phaseAt = phaseRead (byte b codeAt) (byte b countAt) valueIn (byte b addressAt) (byte b positionAt)
 
   abbrev pub levelsAt : Levels
   levelsAt = levels (byte b frameAt)

@@ -15,8 +15,21 @@ use lines::Levels;
 // How many addresses a frame counts through before it comes round to the first.
 pub const ROUND: u16 = ground::ADDRESSES as u16;
 
-// Where a record has the frame's bytes, and DATA, the last of them.
+// Where a record has the frame's bytes: the lines first, then the phase, its unfinished bits with their value, its address and
+// its reading position, and DATA last.
 pub const FRAME_AT: usize = ground::ADDRESSES;
+
+const PHASE_AT: usize = FRAME_AT + 1;
+
+const COUNT_AT: usize = FRAME_AT + 2;
+
+const LOW_AT: usize = FRAME_AT + 3;
+
+const HIGH_AT: usize = FRAME_AT + 4;
+
+const ADDRESS_AT: usize = FRAME_AT + 5;
+
+const POSITION_AT: usize = FRAME_AT + 6;
 
 pub const DATA_AT: usize = FRAME_AT + 7;
 
@@ -191,14 +204,14 @@ pub fn holds_frame(bytes: &[u8]) -> bool
     if bytes.len() != ground::RECORD_LENGTH {
         return false;
     }
-    let value = value_from(bytes[35], bytes[36]);
+    let value = value_from(bytes[LOW_AT], bytes[HIGH_AT]);
     right::frame_right(
         bytes[FRAME_AT],
-        bytes[33],
-        bytes[34],
+        bytes[PHASE_AT],
+        bytes[COUNT_AT],
         value,
-        bytes[37],
-        bytes[38],
+        bytes[ADDRESS_AT],
+        bytes[POSITION_AT],
         bytes[DATA_AT],
     )
 }
@@ -211,11 +224,11 @@ pub fn frame_in(bytes: &[u8]) -> FrameRead
         return FrameRead::NoFrame;
     }
     let lines = bytes[FRAME_AT];
-    let code = bytes[33];
-    let count = bytes[34];
-    let value = value_from(bytes[35], bytes[36]);
-    let at = bytes[37];
-    let position = bytes[38];
+    let code = bytes[PHASE_AT];
+    let count = bytes[COUNT_AT];
+    let value = value_from(bytes[LOW_AT], bytes[HIGH_AT]);
+    let at = bytes[ADDRESS_AT];
+    let position = bytes[POSITION_AT];
     let data = bytes[DATA_AT];
     if !right::frame_right(lines, code, count, value, at, position, data) {
         return FrameRead::NoFrame;
@@ -241,12 +254,12 @@ pub fn write_frame(levels: Levels, phase: Phase, line: Line, out: &mut [u8]) -> 
     }
     let value = phase.value();
     out[FRAME_AT] = levels.number();
-    out[33] = phase.number();
-    out[34] = phase.unfinished();
-    out[35] = (value % 256) as u8;
-    out[36] = (value / 256) as u8;
-    out[37] = phase.address();
-    out[38] = phase.position();
+    out[PHASE_AT] = phase.number();
+    out[COUNT_AT] = phase.unfinished();
+    out[LOW_AT] = (value % 256) as u8;
+    out[HIGH_AT] = (value / 256) as u8;
+    out[ADDRESS_AT] = phase.address();
+    out[POSITION_AT] = phase.position();
     out[DATA_AT] = line.number();
     Outcome::Written(8)
 }

@@ -8,6 +8,7 @@ ghost use Rattle.settings.specs.Numbers.{pitchNumber, irqSourceNumber};
 ghost use Rattle.settings.specs.Bytes.{settingsInRange, settingsOf, selectionsRead, settingsRead, settingsOver, countersOver};
 
 mod codes; // codes.rt: coded bytes, each read to a case
+mod offsets; // offsets.rt: where each byte stands
 
 use clock::BaseCounter;
 use clock::Counters;
@@ -199,19 +200,19 @@ fn selections_in(bytes: &[u8]) -> SelectionsRead
     requires { ⌜ length (now bytes) ≡ recordLength ⌝ }
     ensures { λ r. ⌜ r ≡ selectionsRead (now (bytes .entry)) ⌝ }
 {
-    let SourceRead::From(source) = codes::source_of(bytes[41]) else {
+    let SourceRead::From(source) = codes::source_of(bytes[offsets::SOURCE]) else {
         return SelectionsRead::NoSelections;
     };
-    let BiasRead::Biased(bias) = codes::bias_of(bytes[43]) else {
+    let BiasRead::Biased(bias) = codes::bias_of(bytes[offsets::BIAS]) else {
         return SelectionsRead::NoSelections;
     };
-    let CommonsRead::Has(commons) = codes::commons_of(bytes[44]) else {
+    let CommonsRead::Has(commons) = codes::commons_of(bytes[offsets::COMMONS]) else {
         return SelectionsRead::NoSelections;
     };
-    let PitchRead::Sounds(pitch) = codes::pitch_of(bytes[46]) else {
+    let PitchRead::Sounds(pitch) = codes::pitch_of(bytes[offsets::PITCH]) else {
         return SelectionsRead::NoSelections;
     };
-    let IrqSourceRead::Of(irq) = codes::irq_source_of(bytes[50]) else {
+    let IrqSourceRead::Of(irq) = codes::irq_source_of(bytes[offsets::IRQ_SOURCE]) else {
         return SelectionsRead::NoSelections;
     };
     SelectionsRead::Selected(source, bias, commons, pitch, irq)
@@ -223,14 +224,22 @@ fn counters_of(bytes: &[u8]) -> Counters
     ensures { λ r. ⌜ r ≡ settingsOf (now (bytes .entry)) .counters ⌝ }
 {
     Counters {
-        prescaler: Prescaler { count: bytes[52] },
-        toner: Toner { count: bytes[53] },
+        prescaler: Prescaler {
+            count: bytes[offsets::P],
+        },
+        toner: Toner {
+            count: bytes[offsets::Q],
+        },
         timer: Timer {
-            divider: Divider { count: bytes[54] },
-            base: BaseCounter { count: bytes[55] },
+            divider: Divider {
+                count: bytes[offsets::D],
+            },
+            base: BaseCounter {
+                count: bytes[offsets::B],
+            },
             watchdog: Watchdog {
-                count: bytes[56],
-                flag: bytes[COUNTERS_AT] == 1,
+                count: bytes[offsets::W],
+                flag: bytes[offsets::FLAG] == 1,
             },
         },
     }
@@ -248,28 +257,28 @@ pub fn part_in(bytes: &[u8]) -> SettingsRead
     };
     SettingsRead::Set(Settings {
         system: System {
-            on: bytes[SETTINGS_AT] == 1,
+            on: bytes[offsets::SYSTEM] == 1,
             source,
         },
         lcd: Lcd {
-            on: bytes[42] == 1,
+            on: bytes[offsets::LCD] == 1,
             bias,
             commons,
         },
         tone: Tone {
-            on: bytes[45] == 1,
+            on: bytes[offsets::TONE] == 1,
             pitch,
         },
         irq: Irq {
-            on: bytes[47] == 1,
+            on: bytes[offsets::IRQ] == 1,
             source: irq,
         },
         base: Base {
-            on: bytes[49] == 1,
-            rate: bytes[48],
+            on: bytes[offsets::TIME_BASE] == 1,
+            rate: bytes[offsets::RATE],
         },
         counters: counters_of(bytes),
-        test: bytes[57] == 1,
+        test: bytes[offsets::TEST] == 1,
     })
 }
 
@@ -280,12 +289,12 @@ pub fn write_counters(counters: Counters, out: &mut [u8]) -> Outcome
     if out.len() < RECORD_LENGTH {
         return Outcome::Refused(Refusal::OutputShort);
     }
-    out[COUNTERS_AT] = counters.timer.watchdog.flag as u8;
-    out[52] = counters.prescaler.count;
-    out[53] = counters.toner.count;
-    out[54] = counters.timer.divider.count;
-    out[55] = counters.timer.base.count;
-    out[56] = counters.timer.watchdog.count;
+    out[offsets::FLAG] = counters.timer.watchdog.flag as u8;
+    out[offsets::P] = counters.prescaler.count;
+    out[offsets::Q] = counters.toner.count;
+    out[offsets::D] = counters.timer.divider.count;
+    out[offsets::B] = counters.timer.base.count;
+    out[offsets::W] = counters.timer.watchdog.count;
     Outcome::Written(6)
 }
 
@@ -306,24 +315,24 @@ pub fn write_part(settings: Settings, out: &mut [u8]) -> Outcome
     let irq = settings.irq;
     let irq_source = irq.source;
     let counters = settings.counters;
-    out[SETTINGS_AT] = system.on as u8;
-    out[41] = source.number();
-    out[42] = lcd.on as u8;
-    out[43] = bias.number();
-    out[44] = commons.number();
-    out[45] = tone.on as u8;
-    out[46] = pitch.number();
-    out[47] = irq.on as u8;
-    out[48] = settings.base.rate;
-    out[49] = settings.base.on as u8;
-    out[50] = irq_source.number();
+    out[offsets::SYSTEM] = system.on as u8;
+    out[offsets::SOURCE] = source.number();
+    out[offsets::LCD] = lcd.on as u8;
+    out[offsets::BIAS] = bias.number();
+    out[offsets::COMMONS] = commons.number();
+    out[offsets::TONE] = tone.on as u8;
+    out[offsets::PITCH] = pitch.number();
+    out[offsets::IRQ] = irq.on as u8;
+    out[offsets::RATE] = settings.base.rate;
+    out[offsets::TIME_BASE] = settings.base.on as u8;
+    out[offsets::IRQ_SOURCE] = irq_source.number();
     write_counters(counters, out);
-    out[57] = settings.test as u8;
-    out[58] = 0;
-    out[59] = 0;
-    out[60] = 0;
-    out[61] = 0;
-    out[62] = 0;
-    out[63] = 0;
+    out[offsets::TEST] = settings.test as u8;
+    out[offsets::SPARE_1] = 0;
+    out[offsets::SPARE_2] = 0;
+    out[offsets::SPARE_3] = 0;
+    out[offsets::SPARE_4] = 0;
+    out[offsets::SPARE_5] = 0;
+    out[offsets::SPARE_6] = 0;
     Outcome::Written(24)
 }
