@@ -1,23 +1,14 @@
 // The settings: the switches and selections that commands set, with the counters; and all of them as bytes of a state record,
 // 40 to 63. Assumes nothing.
 ghost use mathlib.Core.Path.{_≡_};
-ghost use lib.ListN.{length};
-ghost use Rattle.ground.specs.Sizes.{recordLength};
 ghost use Rattle.ground.specs.Outcomes.{writtenAs};
 ghost use Rattle.settings.specs.Numbers.{pitchNumber, irqSourceNumber};
-ghost use Rattle.settings.specs.Bytes.{settingsInRange, settingsOf, selectionsRead, settingsRead, settingsOver, countersOver};
+ghost use Rattle.settings.specs.Bytes.{settingsOver, countersOver};
 
-mod codes; // codes.rt: coded bytes, each read to a case
-mod offsets; // offsets.rt: where each byte stands
+pub mod offsets; // offsets.rt: where each byte stands
 
-use clock::BaseCounter;
 use clock::Counters;
-use clock::Divider;
-use clock::Prescaler;
 use clock::Source;
-use clock::Timer;
-use clock::Toner;
-use clock::Watchdog;
 use commands::Bias;
 use commands::Commons;
 use ground::Outcome;
@@ -107,9 +98,6 @@ impl IrqSource {
     }
 }
 
-// How many bytes the settings have in a record.
-const LENGTH: usize = RECORD_LENGTH - SETTINGS_AT;
-
 // What the coded byte of each selection reads to.
 pub enum SourceRead {
     From(Source),
@@ -146,140 +134,6 @@ pub enum SelectionsRead {
 pub enum SettingsRead {
     Set(Settings),
     NoSettings,
-}
-
-// The most that each of the settings' bytes can be.
-const MAXIMA: [u8; LENGTH] = [
-    1, // 40 system
-    2, // 41 source
-    1, // 42 LCD
-    3, // 43 bias
-    4, // 44 commons
-    1, // 45 tone
-    4, // 46 its frequency
-    1, // 47 IRQ output
-    7, // 48 rate
-    1, // 49 time base
-    2, // 50 IRQ source
-    1, // 51 flag
-    (clock::PRESCALER_SIZE - 1) as u8, // 52 p
-    (clock::TONER_SIZE - 1) as u8, // 53 q
-    (clock::DIVIDER_SIZE - 1) as u8, // 54 d
-    (clock::BASE_SIZE - 1) as u8, // 55 b
-    (clock::WATCHDOG_SIZE - 1) as u8, // 56 w
-    1, // 57 test
-    0, // 58 to 63 zero
-    0,
-    0,
-    0,
-    0,
-    0,
-];
-
-// Whether each of a record's bytes 40 to 63 is in range. Apart from `part_in`, which is then small enough to be put into its
-// callers.
-pub fn in_range(bytes: &[u8]) -> bool
-    ensures { λ r. ⌜ r ≡ settingsInRange (now (bytes .entry)) ⌝ }
-{
-    if bytes.len() != RECORD_LENGTH {
-        return false;
-    }
-    let most = MAXIMA;
-    let mut i: usize = 0;
-    while i < LENGTH {
-        if most[i] < bytes[SETTINGS_AT + i] {
-            return false;
-        }
-        i += 1;
-    }
-    true
-}
-
-// The selections, if each is one of its cases.
-fn selections_in(bytes: &[u8]) -> SelectionsRead
-    requires { ⌜ length (now bytes) ≡ recordLength ⌝ }
-    ensures { λ r. ⌜ r ≡ selectionsRead (now (bytes .entry)) ⌝ }
-{
-    let SourceRead::From(source) = codes::source_of(bytes[offsets::SOURCE]) else {
-        return SelectionsRead::NoSelections;
-    };
-    let BiasRead::Biased(bias) = codes::bias_of(bytes[offsets::BIAS]) else {
-        return SelectionsRead::NoSelections;
-    };
-    let CommonsRead::Has(commons) = codes::commons_of(bytes[offsets::COMMONS]) else {
-        return SelectionsRead::NoSelections;
-    };
-    let PitchRead::Sounds(pitch) = codes::pitch_of(bytes[offsets::PITCH]) else {
-        return SelectionsRead::NoSelections;
-    };
-    let IrqSourceRead::Of(irq) = codes::irq_source_of(bytes[offsets::IRQ_SOURCE]) else {
-        return SelectionsRead::NoSelections;
-    };
-    SelectionsRead::Selected(source, bias, commons, pitch, irq)
-}
-
-// Bytes 51 to 56.
-fn counters_of(bytes: &[u8]) -> Counters
-    requires { ⌜ length (now bytes) ≡ recordLength ⌝ }
-    ensures { λ r. ⌜ r ≡ settingsOf (now (bytes .entry)) .counters ⌝ }
-{
-    Counters {
-        prescaler: Prescaler {
-            count: bytes[offsets::P],
-        },
-        toner: Toner {
-            count: bytes[offsets::Q],
-        },
-        timer: Timer {
-            divider: Divider {
-                count: bytes[offsets::D],
-            },
-            base: BaseCounter {
-                count: bytes[offsets::B],
-            },
-            watchdog: Watchdog {
-                count: bytes[offsets::W],
-                flag: bytes[offsets::FLAG] == 1,
-            },
-        },
-    }
-}
-
-// The settings that a record's bytes 40 to 63 say, if each selection is one of its cases.
-pub fn part_in(bytes: &[u8]) -> SettingsRead
-    ensures { λ r. ⌜ r ≡ settingsRead (now (bytes .entry)) ⌝ }
-{
-    if bytes.len() != RECORD_LENGTH {
-        return SettingsRead::NoSettings;
-    }
-    let SelectionsRead::Selected(source, bias, commons, pitch, irq) = selections_in(bytes) else {
-        return SettingsRead::NoSettings;
-    };
-    SettingsRead::Set(Settings {
-        system: System {
-            on: bytes[offsets::SYSTEM] == 1,
-            source,
-        },
-        lcd: Lcd {
-            on: bytes[offsets::LCD] == 1,
-            bias,
-            commons,
-        },
-        tone: Tone {
-            on: bytes[offsets::TONE] == 1,
-            pitch,
-        },
-        irq: Irq {
-            on: bytes[offsets::IRQ] == 1,
-            source: irq,
-        },
-        base: Base {
-            on: bytes[offsets::TIME_BASE] == 1,
-            rate: bytes[offsets::RATE],
-        },
-        counters: counters_of(bytes),
-        test: bytes[offsets::TEST] == 1,
-    })
 }
 
 // Of a record that a buffer holds, the counters' bytes alone, 51 to 56: for a chip of which nothing else has changed.

@@ -68,13 +68,13 @@ pub fn settings_in(bytes: &[u8]) -> SettingsRead
     if !memory_right(bytes) {
         return SettingsRead::NoSettings;
     }
-    if !settings::in_range(bytes) {
+    if !recall::in_range(bytes) {
         return SettingsRead::NoSettings;
     }
     if !phases::holds_frame(bytes) {
         return SettingsRead::NoSettings;
     }
-    settings::part_in(bytes)
+    recall::part_in(bytes)
 }
 
 // The chip that a record says, if the record is valid.
@@ -84,13 +84,13 @@ pub fn read(bytes: &[u8]) -> Recalled
     if !memory_right(bytes) {
         return nothing_recalled();
     }
-    if !settings::in_range(bytes) {
+    if !recall::in_range(bytes) {
         return nothing_recalled();
     }
     let FrameRead::Frame(levels, phase, line) = phases::frame_in(bytes) else {
         return nothing_recalled();
     };
-    let SettingsRead::Set(settings) = settings::part_in(bytes) else {
+    let SettingsRead::Set(settings) = recall::part_in(bytes) else {
         return nothing_recalled();
     };
     Recalled {

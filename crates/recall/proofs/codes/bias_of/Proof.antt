@@ -1,8 +1,8 @@
--- `settings::codes::bias_of` meets its contract: code by code. Assumes nothing.
+-- `recall::codes::bias_of` meets its contract: code by code. Assumes nothing.
 use borrow.Author.Tests.{ne-eqb}
 use Rattle.settings.specs.Selections.{biasRead}
-use Rattle.settings.proofs.codes.bias_of.Statement.{statement}
-use Rattle.settings.proofs.codes.bias_of.Tie as tie
+use Rattle.recall.proofs.codes.bias_of.Statement.{statement}
+use Rattle.recall.proofs.codes.bias_of.Tie as tie
 
 returns : tie.Need-returns
 unfolding biasRead

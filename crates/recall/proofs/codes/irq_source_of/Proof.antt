@@ -1,8 +1,8 @@
--- `settings::codes::irq_source_of` meets its contract: code by code. Assumes nothing.
+-- `recall::codes::irq_source_of` meets its contract: code by code. Assumes nothing.
 use borrow.Author.Tests.{ne-eqb}
 use Rattle.settings.specs.Selections.{irqSourceRead}
-use Rattle.settings.proofs.codes.irq_source_of.Statement.{statement}
-use Rattle.settings.proofs.codes.irq_source_of.Tie as tie
+use Rattle.recall.proofs.codes.irq_source_of.Statement.{statement}
+use Rattle.recall.proofs.codes.irq_source_of.Tie as tie
 
 returns : tie.Need-returns
 unfolding irqSourceRead

@@ -1,16 +1,16 @@
 // Coded bytes of the settings, each read to the case that it stands for.
 ghost use mathlib.Core.Path.{_≡_};
 ghost use Rattle.settings.specs.Selections.{sourceRead, biasRead, commonsRead, pitchRead, irqSourceRead};
-use crate::BiasRead;
-use crate::CommonsRead;
-use crate::IrqSource;
-use crate::IrqSourceRead;
-use crate::Pitch;
-use crate::PitchRead;
-use crate::SourceRead;
 use clock::Source;
 use commands::Bias;
 use commands::Commons;
+use settings::BiasRead;
+use settings::CommonsRead;
+use settings::IrqSource;
+use settings::IrqSourceRead;
+use settings::Pitch;
+use settings::PitchRead;
+use settings::SourceRead;
 
 // Byte 41.
 pub(crate) fn source_of(code: u8) -> SourceRead

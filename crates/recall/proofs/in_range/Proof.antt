@@ -1,4 +1,4 @@
--- `settings::in_range` meets its contract: the bytes before `i` are in range, and the others decide. Assumes nothing.
+-- `recall::in_range` meets its contract: the bytes before `i` are in range, and the others decide. Assumes nothing.
 use mathlib.Core.Path.{_≡_, _∙_, sym, refl}
 use Prim.Native.Nat.{_-_, _≤_}
 use native.Mathlib.Omega.{arith}
@@ -6,10 +6,10 @@ use borrow.Author.Needs.{needs}
 use borrow.Author.Tests.{eq-eqb, ne-eqb}
 use lib.ListN.{drop}
 use Rattle.ground.specs.Ranges.{upTo}
 use Rattle.settings.specs.Bytes.{settingsAt, settingsMaxima}
 use Rattle.settings.proofs.BytesLaws.{range-passes, range-fails, range-ends}
-use Rattle.settings.proofs.in_range.Statement.{statement}
-use Rattle.settings.proofs.in_range.Tie as tie
+use Rattle.recall.proofs.in_range.Statement.{statement}
+use Rattle.recall.proofs.in_range.Tie as tie
 
 abbrev Inv-loop : tie.InvT-loop
 Inv-loop bytes most i₀ i =

@@ -1,8 +1,8 @@
--- `settings::codes::source_of` meets its contract: code by code. Assumes nothing.
+-- `recall::codes::source_of` meets its contract: code by code. Assumes nothing.
 use borrow.Author.Tests.{ne-eqb}
 use Rattle.settings.specs.Selections.{sourceRead}
-use Rattle.settings.proofs.codes.source_of.Statement.{statement}
-use Rattle.settings.proofs.codes.source_of.Tie as tie
+use Rattle.recall.proofs.codes.source_of.Statement.{statement}
+use Rattle.recall.proofs.codes.source_of.Tie as tie
 
 returns : tie.Need-returns
 unfolding sourceRead

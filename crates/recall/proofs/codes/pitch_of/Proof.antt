@@ -1,8 +1,8 @@
--- `settings::codes::pitch_of` meets its contract: code by code. Assumes nothing.
+-- `recall::codes::pitch_of` meets its contract: code by code. Assumes nothing.
 use borrow.Author.Tests.{ne-eqb}
 use Rattle.settings.specs.Selections.{pitchRead}
-use Rattle.settings.proofs.codes.pitch_of.Statement.{statement}
-use Rattle.settings.proofs.codes.pitch_of.Tie as tie
+use Rattle.recall.proofs.codes.pitch_of.Statement.{statement}
+use Rattle.recall.proofs.codes.pitch_of.Tie as tie
 
 returns : tie.Need-returns
 unfolding pitchRead

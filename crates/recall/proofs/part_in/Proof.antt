@@ -1,9 +1,9 @@
--- `settings::part_in` meets its contract: the length decides, and then the selections. Assumes nothing.
+-- `recall::part_in` meets its contract: the length decides, and then the selections. Assumes nothing.
 use mathlib.Core.Path.{_∙_, sym}
 use Rattle.settings.proofs.BytesLaws.{part-length, part-unknown, part-whole}
 use borrow.Author.Needs.{needs}
-use Rattle.settings.proofs.part_in.Statement.{statement}
-use Rattle.settings.proofs.part_in.Tie as tie
+use Rattle.recall.proofs.part_in.Statement.{statement}
+use Rattle.recall.proofs.part_in.Tie as tie
 
 returns : tie.Need-returns
 returns c = part-length (c .before .before .args .bytes .now) (c .if1 .taken)

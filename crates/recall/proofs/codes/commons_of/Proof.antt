@@ -1,8 +1,8 @@
--- `settings::codes::commons_of` meets its contract: code by code. Assumes nothing.
+-- `recall::codes::commons_of` meets its contract: code by code. Assumes nothing.
 use borrow.Author.Tests.{ne-eqb}
 use Rattle.settings.specs.Selections.{commonsRead}
-use Rattle.settings.proofs.codes.commons_of.Statement.{statement}
-use Rattle.settings.proofs.codes.commons_of.Tie as tie
+use Rattle.recall.proofs.codes.commons_of.Statement.{statement}
+use Rattle.recall.proofs.codes.commons_of.Tie as tie
 
 returns : tie.Need-returns
 unfolding commonsRead

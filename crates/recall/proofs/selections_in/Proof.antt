@@ -1,15 +1,15 @@
--- `settings::selections_in` meets its contract: each selection decides in turn. Assumes nothing.
+-- `recall::selections_in` meets its contract: each selection decides in turn. Assumes nothing.
 use mathlib.Core.Path.{_∙_, sym}
 use Rattle.clock.specs.declared.Source.the-variants.{Rc}
 use Rattle.commands.specs.declared.Bias.the-variants.{Half}
 use Rattle.commands.specs.declared.Commons.the-variants.{Two}
 use Rattle.settings.specs.declared.Pitch.the-variants.{FourK}
 use Rattle.settings.specs.declared.IrqSource.the-variants.{Neither}
 use Rattle.settings.proofs.BytesLaws.{and-next, and-fails, selections-none, selections-found}
 use Rattle.settings.proofs.SelectionsLaws.{source-none, source-found, bias-none, bias-found, commons-none, commons-found, pitch-none, pitch-found, irqSource-none, irqSource-found}
 use borrow.Author.Needs.{needs}
-use Rattle.settings.proofs.selections_in.Statement.{statement}
-use Rattle.settings.proofs.selections_in.Tie as tie
+use Rattle.recall.proofs.selections_in.Statement.{statement}
+use Rattle.recall.proofs.selections_in.Tie as tie
 
 shared-slice-read-source-of : tie.Need-shared-slice-read-source-of
 shared-slice-read-source-of c = search needs

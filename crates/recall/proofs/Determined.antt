@@ -1,0 +1,14 @@
+-- Each public contract of this crate determines its result: it is an equation, and both results meet it.
+-- Assumes nothing.
+use mathlib.Core.Path.{_∙_, sym}
+use Rattle.ground.specs.Determined.{Determined}
+use Rattle.recall.proofs.in_range.Kinds as in-range-kinds
+use Rattle.recall.proofs.in_range.Reads as in-range-reads
+use Rattle.recall.proofs.part_in.Kinds as part-in-kinds
+use Rattle.recall.proofs.part_in.Reads as part-in-reads
+
+pub in-range-determined : Determined 1 in-range-kinds.ps in-range-kinds.r in-range-reads.Post
+in-range-determined κs args x y end end' p q = p ∙ sym q
+
+pub part-in-determined : Determined 1 part-in-kinds.ps part-in-kinds.r part-in-reads.Post
+part-in-determined κs args x y end end' p q = p ∙ sym q
