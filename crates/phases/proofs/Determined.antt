@@ -2,33 +2,18 @@
 -- results meet them. Assumes nothing.
 use mathlib.Core.Path.{_∙_, sym}
 use Rattle.ground.specs.Determined.{Determined, DeterminedWith}
-use Rattle.phases.proofs.Line.number.Kinds as line-number-kinds
-use Rattle.phases.proofs.Line.number.Reads as line-number-reads
 use Rattle.phases.proofs.Phase.unfinished.Kinds as unfinished-kinds
 use Rattle.phases.proofs.Phase.unfinished.Reads as unfinished-reads
 use Rattle.phases.proofs.Phase.address.Kinds as address-kinds
 use Rattle.phases.proofs.Phase.address.Reads as address-reads
-use Rattle.phases.proofs.holds_frame.Kinds as holds-frame-kinds
-use Rattle.phases.proofs.holds_frame.Reads as holds-frame-reads
-use Rattle.phases.proofs.frame_in.Kinds as frame-in-kinds
-use Rattle.phases.proofs.frame_in.Reads as frame-in-reads
 use Rattle.phases.proofs.write_frame.Kinds as write-frame-kinds
 use Rattle.phases.proofs.write_frame.Reads as write-frame-reads
-
-pub line-number-determined : Determined 0 line-number-kinds.ps line-number-kinds.r line-number-reads.Post
-line-number-determined κs args x y end end' p q = p ∙ sym q
 
 pub unfinished-determined : Determined 0 unfinished-kinds.ps unfinished-kinds.r unfinished-reads.Post
 unfinished-determined κs args x y end end' p q = p ∙ sym q
 
 pub address-determined : Determined 0 address-kinds.ps address-kinds.r address-reads.Post
 address-determined κs args x y end end' p q = p ∙ sym q
-
-pub holds-frame-determined : Determined 1 holds-frame-kinds.ps holds-frame-kinds.r holds-frame-reads.Post
-holds-frame-determined κs args x y end end' p q = p ∙ sym q
-
-pub frame-in-determined : Determined 1 frame-in-kinds.ps frame-in-kinds.r frame-in-reads.Post
-frame-in-determined κs args x y end end' p q = p ∙ sym q
 
 pub write-frame-determined : DeterminedWith 1 write-frame-kinds.ps write-frame-kinds.r (λ κs end. end .1 .1 .1 .0 .now) write-frame-reads.Post
 write-frame-determined κs args x y end end' p q = (p .0 ∙ sym (q .0), p .1 ∙ sym (q .1))

@@ -1,13 +1,9 @@
 // Where a frame stands, what the chip does to DATA, and both with the lines as bytes of a state record, 32 to 39. Assumes
 // nothing.
 ghost use mathlib.Core.Path.{_≡_};
-ghost use Prim.Native.Nat.{_+_, _*_};
 ghost use Rattle.ground.specs.Outcomes.{writtenAs};
 ghost use Rattle.phases.specs.Phases.{unfinished, address, valueOf, positionOf, phaseNumber, lineNumber};
-ghost use Rattle.phases.specs.Frame.{phaseRead, lineRead, holdsFrame, frameRead, frameOver};
-
-mod right; // right.rt: which bytes of a frame are right
-
+ghost use Rattle.phases.specs.Frame.{frameOver};
 use ground::Outcome;
 use ground::Refusal;
 use lines::Levels;
@@ -19,17 +15,17 @@ pub const ROUND: u16 = ground::ADDRESSES as u16;
 // its reading position, and DATA last.
 pub const FRAME_AT: usize = ground::ADDRESSES;
 
-const PHASE_AT: usize = FRAME_AT + 1;
+pub const PHASE_AT: usize = FRAME_AT + 1;
 
-const COUNT_AT: usize = FRAME_AT + 2;
+pub const COUNT_AT: usize = FRAME_AT + 2;
 
-const LOW_AT: usize = FRAME_AT + 3;
+pub const LOW_AT: usize = FRAME_AT + 3;
 
-const HIGH_AT: usize = FRAME_AT + 4;
+pub const HIGH_AT: usize = FRAME_AT + 4;
 
-const ADDRESS_AT: usize = FRAME_AT + 5;
+pub const ADDRESS_AT: usize = FRAME_AT + 5;
 
-const POSITION_AT: usize = FRAME_AT + 6;
+pub const POSITION_AT: usize = FRAME_AT + 6;
 
 pub const DATA_AT: usize = FRAME_AT + 7;
 
@@ -53,7 +49,7 @@ pub enum Line {
 
 impl Line {
     // Its number in the state record and among the pins: 0 released, 1 low, 2 high.
-    pub fn number(self) -> u8
+    fn number(self) -> u8
         ensures { λ r. ⌜ r ≡ lineNumber self ⌝ }
     {
         match self {
@@ -159,88 +155,6 @@ pub enum LineRead {
 pub enum FrameRead {
     Frame(Levels, Phase, Line),
     NoFrame,
-}
-
-// Byte 33, with the bytes that a phase carries.
-fn phase_of(code: u8, count: u8, value: u16, at: u8, position: u8) -> PhaseRead
-    ensures { λ r. ⌜ r ≡ phaseRead code count value at position ⌝ }
-{
-    match code {
-        0 => PhaseRead::Phased(Phase::Idle),
-        1 => PhaseRead::Phased(Phase::Ident(count, value)),
-        2 => PhaseRead::Phased(Phase::ReadTo(count, value)),
-        3 => PhaseRead::Phased(Phase::WriteTo(count, value)),
-        4 => PhaseRead::Phased(Phase::Reading(at, position)),
-        5 => PhaseRead::Phased(Phase::Writing(count, value, at, position)),
-        6 => PhaseRead::Phased(Phase::Command(count, value)),
-        7 => PhaseRead::Phased(Phase::Dead),
-        _ => PhaseRead::NoPhase,
-    }
-}
-
-// Byte 39.
-fn line_of(code: u8) -> LineRead
-    ensures { λ r. ⌜ r ≡ lineRead code ⌝ }
-{
-    match code {
-        0 => LineRead::Data(Line::Released),
-        1 => LineRead::Data(Line::Driven(false)),
-        2 => LineRead::Data(Line::Driven(true)),
-        _ => LineRead::NoLine,
-    }
-}
-
-// The value of the unfinished bits, low byte first.
-fn value_from(low: u8, high: u8) -> u16
-    ensures { λ r. ⌜ r ≡ low + 256 * high ⌝ }
-{
-    low as u16 + 256 * (high as u16)
-}
-
-// Whether a record's bytes 32 to 39 are right: for whoever has no use for the frame itself.
-pub fn holds_frame(bytes: &[u8]) -> bool
-    ensures { λ r. ⌜ r ≡ holdsFrame (now (bytes .entry)) ⌝ }
-{
-    if bytes.len() != ground::RECORD_LENGTH {
-        return false;
-    }
-    let value = value_from(bytes[LOW_AT], bytes[HIGH_AT]);
-    right::frame_right(
-        bytes[FRAME_AT],
-        bytes[PHASE_AT],
-        bytes[COUNT_AT],
-        value,
-        bytes[ADDRESS_AT],
-        bytes[POSITION_AT],
-        bytes[DATA_AT],
-    )
-}
-
-// The lines, the phase and DATA that a record's bytes 32 to 39 say, if they are right.
-pub fn frame_in(bytes: &[u8]) -> FrameRead
-    ensures { λ r. ⌜ r ≡ frameRead (now (bytes .entry)) ⌝ }
-{
-    if bytes.len() != ground::RECORD_LENGTH {
-        return FrameRead::NoFrame;
-    }
-    let lines = bytes[FRAME_AT];
-    let code = bytes[PHASE_AT];
-    let count = bytes[COUNT_AT];
-    let value = value_from(bytes[LOW_AT], bytes[HIGH_AT]);
-    let at = bytes[ADDRESS_AT];
-    let position = bytes[POSITION_AT];
-    let data = bytes[DATA_AT];
-    if !right::frame_right(lines, code, count, value, at, position, data) {
-        return FrameRead::NoFrame;
-    }
-    let PhaseRead::Phased(phase) = phase_of(code, count, value, at, position) else {
-        return FrameRead::NoFrame;
-    };
-    let LineRead::Data(line) = line_of(data) else {
-        return FrameRead::NoFrame;
-    };
-    let levels = lines::levels_of(lines);
-    FrameRead::Frame(levels, phase, line)
 }
 
 // Of a record that a buffer holds, the frame's bytes alone. Each is stored by itself: so the next reading loads what was

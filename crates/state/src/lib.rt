@@ -71,7 +71,7 @@ pub fn settings_in(bytes: &[u8]) -> SettingsRead
     if !recall::in_range(bytes) {
         return SettingsRead::NoSettings;
     }
-    if !phases::holds_frame(bytes) {
+    if !resume::holds_frame(bytes) {
         return SettingsRead::NoSettings;
     }
     recall::part_in(bytes)
@@ -87,7 +87,7 @@ pub fn read(bytes: &[u8]) -> Recalled
     if !recall::in_range(bytes) {
         return nothing_recalled();
     }
-    let FrameRead::Frame(levels, phase, line) = phases::frame_in(bytes) else {
+    let FrameRead::Frame(levels, phase, line) = resume::frame_in(bytes) else {
         return nothing_recalled();
     };
     let SettingsRead::Set(settings) = recall::part_in(bytes) else {
