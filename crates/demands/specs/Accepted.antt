@@ -9,7 +9,6 @@ use lib.ListN.{length}
 use Rattle.ground.specs.declared.Outcome.the-variants.{Written}
 use Rattle.ground.specs.Outcomes.{Row, row, numberBy, AsTabled}
 use Rattle.ground.specs.Places.{lowest, somewhere}
-use Rattle.ground.specs.Sizes.{addresses, recordLength}
 use Rattle.commands.specs.Commands.{commandFault}
 use Rattle.chip.specs.Chip.{stepped}
 use Rattle.pins.specs.Pins.{pinsShown}
@@ -23,7 +22,7 @@ use Rattle.host.specs.Host.{powerOnAnswer, powerOnReturns, writeReturns, readRe
 abbrev pub writeTable : ℕ → List ℕ → ℕ → List Row
 writeTable first nibbles room =
     row (eqb (length nibbles) 0) 21 0
-    ∷ row (ltb 31 first || ltb addresses (first + length nibbles)) 22 0
+    ∷ row (ltb 31 first || ltb 32 (first + length nibbles)) 22 0
     ∷ row (somewhere (ltb 15) nibbles) 23 (lowest (ltb 15) nibbles)
     ∷ row (ltb room (21 + 8 * length nibbles)) 25 0 ∷ []
 
@@ -31,7 +30,7 @@ writeTable first nibbles room =
 abbrev pub readTable : ℕ → ℕ → ℕ → List Row
 readTable first count room =
     row (eqb count 0) 21 0
-    ∷ row (ltb 31 first || ltb addresses (first + count)) 22 0
+    ∷ row (ltb 31 first || ltb 32 (first + count)) 22 0
     ∷ row (ltb room (21 + 8 * count)) 25 0 ∷ []
 
 -- Giving commands.
@@ -52,9 +51,9 @@ decodeTable noted room =
 -- Power-on with a memory, into a buffer for its record.
 abbrev pub powerOnTable : List ℕ → ℕ → List Row
 powerOnTable memory room =
-    row (not (eqb (length memory) addresses)) 29 0
+    row (not (eqb (length memory) 32)) 29 0
     ∷ row (somewhere (ltb 15) memory) 23 (lowest (ltb 15) memory)
-    ∷ row (ltb room recordLength) 25 0 ∷ []
+    ∷ row (ltb room 64) 25 0 ∷ []
 
 -- 01 "State record and simulator": a sample, ticks and the pins of a record.
 abbrev pub stepTable : List ℕ → ℕ → List Row
@@ -64,7 +63,7 @@ abbrev pub advanceTable : List ℕ → List Row
 advanceTable bytes = row (not (recordValid bytes)) 28 0 ∷ []
 
 abbrev pub pinsTable : List ℕ → List ℕ → List Row
-pinsTable bytes cells = row (not (recordValid bytes)) 28 0 ∷ row (ltb (length cells) addresses) 25 0 ∷ []
+pinsTable bytes cells = row (not (recordValid bytes)) 28 0 ∷ row (ltb (length cells) 32) 25 0 ∷ []
 
 -- What a call of the maker's library returns by its table: the size where no test holds, and else 2^31 + 256 x place + number of
 -- the first row whose test does.
@@ -78,7 +77,7 @@ pub record Accepted : Type 0 where
   pub read : (first count room : ℕ) → AsTabled (readTable first count room) (21 + 8 * count) (readAnswer first count room)
   pub commands : (codes : List ℕ) (room : ℕ) → AsTabled (commandTable codes room) (9 + 18 * length codes) (commandAnswer codes room)
   pub decode : (noted : List ℕ) (room : ℕ) → AsTabled (decodeTable noted room) (length noted / 4) (decodeAnswer noted room)
-  pub powerOn : (memory : List ℕ) (room : ℕ) → AsTabled (powerOnTable memory room) recordLength (powerOnAnswer memory room)
+  pub powerOn : (memory : List ℕ) (room : ℕ) → AsTabled (powerOnTable memory room) 64 (powerOnAnswer memory room)
   -- the same through the calls for C
   pub writeCall : (first : ℕ) (nibbles out : List ℕ)
       → writeReturns first nibbles out ≡ codeBy (writeTable first nibbles (length out)) (21 + 8 * length nibbles)
@@ -86,7 +85,7 @@ pub record Accepted : Type 0 where
       → readReturns first count out ≡ codeBy (readTable first count (length out)) (21 + 8 * count)
   pub commandsCall : (codes out : List ℕ) → commandsReturns codes out ≡ codeBy (commandTable codes (length out)) (9 + 18 * length codes)
   pub decodeCall : (noted out : List ℕ) → decodeReturns noted out ≡ codeBy (decodeTable noted (length out)) (length noted / 4)
-  pub powerOnCall : (memory bytes : List ℕ) → powerOnReturns memory bytes ≡ codeBy (powerOnTable memory (length bytes)) recordLength
+  pub powerOnCall : (memory bytes : List ℕ) → powerOnReturns memory bytes ≡ codeBy (powerOnTable memory (length bytes)) 64
   -- and the numbers of the calls on a record
   pub step : (bytes : List ℕ) (sample : ℕ)
       → stepReturns bytes sample ≡ numberBy (stepTable bytes sample) (answerCode (stepped (chipOf bytes) sample .answer))

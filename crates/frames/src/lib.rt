@@ -64,7 +64,7 @@ fn collect(phase: Phase) -> Framed
 {
     Framed {
         phase,
-        line: Line::Released, // by the bit that is taken
+        line: Line::Released,
         upshot: Upshot::Answered(Answer::Taken),
     }
 }
@@ -75,7 +75,7 @@ fn stray_in(phase: Phase, line: Line) -> Framed
 {
     Framed {
         phase,
-        line, // as it stands
+        line,
         upshot: Upshot::Answered(Answer::Stray),
     }
 }

@@ -1,4 +1,4 @@
--- The settings at power-on, and the settings with one of them changed and all others kept. Assumes nothing.
+-- 01 "Commands", its power-on; and the settings with one of them changed and all others kept. Assumes nothing.
 use Prim.Native.Nat.{ℕ}
 use mathlib.Core.Bool.{Bool, false}
 use Rattle.clock.specs.declared.Source.{Source}
