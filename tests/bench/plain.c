@@ -1,4 +1,4 @@
-/* The benchmark's yardstick: the paper's chip, streams, decoding and listing in plain C99, with the checks and the refusals of
+/* The benchmark's yardstick: chip, streams, decoding and listing of the rules in plain C99, with the checks and the refusals of
    the libraries. It works in place on the 64-byte record and is written to be read: no trick that a maintainer would have to
    be told of. What it returns is what the libraries return (ht1621_simulator.h, ht1621_host.h).
    PACK is the name under which the compiler's command line wants it all. */

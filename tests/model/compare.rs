@@ -511,8 +511,8 @@ fn fed(tally: &mut Tally, record: &[u8], samples: &[u8]) -> Outcome {
     last
 }
 
-// The paper's own examples and cases, with its numbers and not the model's.
-fn paper_cases(tally: &mut Tally) {
+// The examples and cases of the rules, with their numbers and not the model's.
+fn cases_of_the_rules(tally: &mut Tally) {
     let chip = tally.power_on(&[0; 32], 64).1;
     answer_cases(tally, &chip);
     length_cases(tally);
@@ -1524,7 +1524,7 @@ fn main() {
     println!("seed {}, samples {}", asked.seed, asked.samples);
     let walk = |tally: &mut Tally| walks(tally, asked.samples);
     let checks: [(&str, &dyn Fn(&mut Tally)); 15] = [
-        ("paper cases", &paper_cases),
+        ("cases of the rules", &cases_of_the_rules),
         ("codes", &codes),
         ("every sample", &every_sample),
         ("spans", &spans),

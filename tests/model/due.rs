@@ -1,4 +1,4 @@
-// What the paper promises of each exported call: the number that it returns, and the bytes lent for writing as they are
+// What the rules promise of each exported call: the number that it returns, and the bytes lent for writing as they are
 // afterwards. `before` is what they held when the call came; of the simulator's record that is the record.
 use crate::model::{self, Model};
 

@@ -1,5 +1,5 @@
 // Writes the script that crates/vectors answers: feed SEED; or the capture that crates/listing lists: feed SEED listing. They
-// are made so that every rule of the paper that is made wrong changes an answer; changes.txt lists such changes, and the
+// are made so that every rule that is made wrong changes an answer; changes.txt lists such changes, and the
 // measure holds them to it.
 // build: rustc -O feed.rs
 // run:   ./feed 1621 > crates/vectors/stdin

@@ -45,7 +45,7 @@ pub fn ticks(script: &mut Script) {
     }
 }
 
-// Each rate beside the numbers that it divides; the flag, set for each source and kept; and the paper's figures.
+// Each rate beside the numbers that it divides; the flag, set for each source and kept; and the figures of the rules.
 pub fn rates_and_flag(script: &mut Script) {
     for rate in 0..8u8 {
         script.words(&format!("rate {rate}"));
@@ -69,7 +69,7 @@ pub fn rates_and_flag(script: &mut Script) {
         script.advance(&record(&[TIMED, before, &[(51, 1), (55, 255), (56, 2)]]), 60_000);
         script.advance(&record(&[before, &[(51, 1), (40, 1), (41, 0)]]), 60_000);
     }
-    script.words("the paper's cases h, i and j");
+    script.words("cases h, i and j of the rules");
     for (clock, source, last) in [(0, 2, 1024), (0, 1, 128), (1, 1, 1024), (2, 2, 8192)] {
         for ticks in [last - 1, last] {
             script.advance(&record(&[TIMED, &[(41, clock), (50, source), (47, 1)]]), ticks);

@@ -1,10 +1,10 @@
-// The capture that crates/listing is run on: the paper's examples, then frames of every kind, with every answer and every
+// The capture that crates/listing is run on: the examples of the rules, then frames of every kind, with every answer and every
 // digit, then random frames until sample numbers have five digits. It reads memory that nothing has written, so that it
 // shows what the listing starts with.
 use crate::random::{frame, Random};
 use crate::{closed, digits, open};
 
-// The paper's examples of a listing.
+// The examples of RULES "The listing".
 const EXAMPLES: [&str; 2] = ["fece46ce46464646cecece46ce46f", "fece46ce46464646cececece46ce46f"];
 
 // Frames with strays and clashes in each phase, and with every ID, closed with unfinished bits and without.

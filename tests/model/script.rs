@@ -1,5 +1,5 @@
 // Answers the lines of a script of calls in the form of crates/vectors (its main.rt says what a script is), by what the
-// paper promises of each call.
+// rules promise of each call.
 use crate::due::{self, Outcome};
 
 // What a byte holds that no call has written yet.

@@ -1,4 +1,4 @@
-// Runs the paper's own examples and cases on the model.
+// Runs the examples and cases of the rules (docs/RULES.md) on the model.
 // build: rustc -O selftest.rs
 // run:   ./selftest
 
@@ -179,7 +179,7 @@ fn nine_bits(tally: &mut Tally, code: u16) -> u32 {
     (answer.0 == 7) as u32
 }
 
-// The defined codes, as the paper's table lists them.
+// The defined codes, as the table of the rules lists them.
 fn tabled(code: u8) -> bool {
     match code {
         0x00..=0x09 | 0x0C..=0x0F | 0x14..=0x1F | 0x20..=0x2B => true,
@@ -358,7 +358,7 @@ fn record_cases(tally: &mut Tally) {
     }
 }
 
-// One tick as the paper's sentences say it, on the bytes of a record.
+// One tick as the rules' sentences say it, on the bytes of a record.
 fn tick_in_words(record: &mut [u8; 64]) {
     let external = record[41] == 2;
     if record[40] == 0 && !external {
@@ -388,7 +388,7 @@ fn tick_in_words(record: &mut [u8; 64]) {
     }
 }
 
-// Advancing is so many ticks as the paper's sentences say them.
+// Advancing is so many ticks as the rules' sentences say them.
 fn advance_cases(tally: &mut Tally) {
     let mut dice = Dice(32768);
     for round in 0..600 {
@@ -554,7 +554,7 @@ fn effect_cases(tally: &mut Tally) {
     }
 }
 
-// The range of each byte, as the paper lists them.
+// The range of each byte, as the rules list them.
 fn range_of(index: usize) -> std::ops::RangeInclusive<u8> {
     match index {
         0..=32 => 0..=15,

@@ -1,4 +1,4 @@
--- 01 "What a sample is answered": the numbers and the details. Assumes nothing.
+-- RULES "What a sample is answered": the numbers and the details. Assumes nothing.
 use Prim.Native.Nat.{ℕ}
 use Rattle.ground.specs.Bits.{bitNumber}
 use Rattle.ground.specs.Refusals.{refusalNumber}

@@ -20,7 +20,7 @@ pub enum Answer {
     Refused(Refusal),
 }
 
-// An answer as the paper's table has it: its number and its two details.
+// An answer as the table of RULES has it: its number and its two details.
 pub struct Numbers {
     pub number: u8,
     pub first: u8,

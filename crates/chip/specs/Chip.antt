@@ -1,4 +1,4 @@
--- 01 "Samples", "What a sample is answered" and "Ticks", of the whole chip: what a sample and a tick make of it.
+-- RULES "Samples", "What a sample is answered" and "Ticks", of the whole chip: what a sample and a tick make of it.
 -- Assumes nothing.
 use Prim.Native.Nat.{ℕ, _*_}
 use mathlib.Core.Bool.{cond}

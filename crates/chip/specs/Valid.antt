@@ -1,4 +1,4 @@
--- 01 "State record and simulator": which chips are valid. Assumes nothing.
+-- RULES "State record and simulator": which chips are valid. Assumes nothing.
 use Rattle.settings.specs.Valid.{SettingsValid}
 use Rattle.port.specs.Valid.{PortValid}
 use Rattle.chip.specs.declared.Chip.{Chip}

@@ -1,4 +1,4 @@
--- The numbers that 01's "State record and simulator" gives the clock's sources. Assumes nothing.
+-- The numbers that RULES "State record and simulator" gives the clock's sources. Assumes nothing.
 use Prim.Native.Nat.{ℕ}
 use Rattle.clock.specs.declared.Source.{Source}
 use Rattle.clock.specs.declared.Source.the-variants.{Xtal, Rc, Ext}

@@ -1,4 +1,4 @@
--- 01 "Ticks": how many values each counter goes through. Assumes nothing.
+-- RULES "Ticks": how many values each counter goes through. Assumes nothing.
 use Prim.Native.Nat.{ℕ}
 
 -- p, the prescaler.

@@ -1,4 +1,4 @@
--- 01 "Ticks", its counters: what a tick of a running clock does to them; and what the clearing commands do.
+-- RULES "Ticks", its counters: what a tick of a running clock does to them; and what the clearing commands do.
 -- Assumes nothing.
 use Prim.Native.Nat.{ℕ, _+_, _-_, _%_, _^_}
 use mathlib.Core.Bool.{Bool, false, cond, _||_}

@@ -1,4 +1,4 @@
--- 01 "State record and simulator", what is valid: the ranges of the counters. Assumes nothing.
+-- RULES "State record and simulator", what is valid: the ranges of the counters. Assumes nothing.
 use Prim.Native.Nat.{_<_}
 use Rattle.clock.specs.Sizes.{prescalerSize, tonerSize, dividerSize, baseSize, watchdogSize}
 use Rattle.clock.specs.declared.Timer.{Timer}

@@ -1,4 +1,4 @@
--- Laws of 01's "Commands". Assumes nothing.
+-- Laws of RULES "Commands". Assumes nothing.
 use mathlib.Core.Path.{_≡_, refl}
 use mathlib.Core.Bool.{_||_}
 use Prim.Native.Nat.{ℕ, zero, suc, _*_, _/_, _<_}

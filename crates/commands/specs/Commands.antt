@@ -1,4 +1,4 @@
--- 01 "Commands": what each nine-bit code means. Assumes nothing.
+-- RULES "Commands": what each nine-bit code means. Assumes nothing.
 use Prim.Native.Nat.{ℕ, zero, suc, _+_, _*_, _/_, _%_, _<_}
 use mathlib.Core.Bool.{Bool, true, false, cond, _&&_, _||_}
 use lib.Dec.{eqb, leb, ltb}
@@ -22,8 +22,8 @@ biasBy c = cond (eqb c 0) Half Third
 abbrev pub commonsBy : ℕ → Commons
 commonsBy ab = cond (eqb ab 0) Two (cond (eqb ab 1) Three Four)
 
--- The pattern rule: the meaning that the upper eight bits of a code decide, row by row as the paper lists them. CLR WDT
--- stands apart from CLR TIMER, whose pattern in the data sheet overlaps it.
+-- The pattern rule: the meaning that the upper eight bits of a code decide, row by row as RULES lists them. CLR WDT
+-- stands apart from CLR TIMER, whose pattern in the data sheets covers it.
 unfoldable pub byteMeaning : ℕ → Decoded
 byteMeaning byte =
     cond (eqb byte 0x00) (Means SysDis)

@@ -1,4 +1,4 @@
--- The numbers that 01 gives the cases of each enum: bytes of "State record and simulator", codes of "Commands".
+-- The numbers that RULES gives the cases of each enum: bytes of "State record and simulator", codes of "Commands".
 -- Assumes nothing.
 use Prim.Native.Nat.{ℕ, _+_}
 use Rattle.commands.specs.declared.Bias.{Bias}

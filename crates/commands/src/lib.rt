@@ -44,7 +44,7 @@ impl Commons {
     }
 }
 
-// The commands, by the names of the data sheet. A rate r from 0 to 7 is F1 to F128.
+// The commands, by the names of the data sheets. A rate r from 0 to 7 is F1 to F128.
 pub enum Command {
     SysDis,
     SysEn,

@@ -1,4 +1,4 @@
--- The cases of 01, computed from the definitions. Assumes nothing.
+-- The cases of RULES "Cases on both sides", computed from the definitions. Assumes nothing.
 use mathlib.Core.Path.{_≡_, _∙_, refl, ap}
 use mathlib.Core.Bool.{Bool, true, false}
 use Prim.Native.Nat.{ℕ}

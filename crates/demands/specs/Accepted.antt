@@ -1,5 +1,5 @@
--- Demand 2, its first half: which requests are accepted. 01 "Driver streams" has a table of refusals; here it stands call by call,
--- in the paper's numbers, and each call succeeds exactly where no row holds. For every request, and every room. Assumes nothing.
+-- Demand 2, its first half: which requests are accepted. RULES "Driver streams" has a table of refusals; here it stands call by call,
+-- in its bare numbers, and each call succeeds exactly where no row holds. For every request, and every room. Assumes nothing.
 use mathlib.Core.Path.{_≡_}
 use mathlib.Core.Bool.{cond, not, _||_}
 use mathlib.Core.List.{List, [], _∷_}
@@ -55,7 +55,7 @@ powerOnTable memory room =
     ∷ row (somewhere (ltb 15) memory) 23 (lowest (ltb 15) memory)
     ∷ row (ltb room 64) 25 0 ∷ []
 
--- 01 "State record and simulator": a sample, ticks and the pins of a record.
+-- RULES "State record and simulator": a sample, ticks and the pins of a record.
 abbrev pub stepTable : List ℕ → ℕ → List Row
 stepTable bytes sample = row (not (recordValid bytes)) 28 0 ∷ row (ltb 15 sample) 20 0 ∷ []
 

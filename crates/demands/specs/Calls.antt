@@ -1,4 +1,4 @@
--- 01 "State record and simulator": what a host in C does, which has no chip but the 64 bytes of a record and calls `step` and
+-- RULES "State record and simulator": what a host in C does, which has no chip but the 64 bytes of a record and calls `step` and
 -- `advance` on them. Assumes nothing.
 use mathlib.Core.Path.{_≡_}
 use mathlib.Core.Bool.{true, cond, not, _&&_}
@@ -45,7 +45,7 @@ returns bytes [] = []
 returns bytes (step s ∷ calls) = stepReturns bytes s ∷ returns (called bytes (step s)) calls
 returns bytes (advance n ∷ calls) = returns (called bytes (advance n)) calls
 
--- 01 "Driver streams": what the host notes where a 14 raises RD, by byte 32 before it and byte 39 after it. DATA that is not
+-- RULES "Driver streams": what the host notes where a 14 raises RD, by byte 32 before it and byte 39 after it. DATA that is not
 -- driven is noted as 2, which no bit is.
 abbrev pub dataNoted : ℕ → ℕ
 dataNoted zero = 2

@@ -1,4 +1,4 @@
--- 01 "Cases on both sides", as one table under one statement. Assumes nothing.
+-- RULES "Cases on both sides", as one table under one statement. Assumes nothing.
 use mathlib.Core.Path.{_≡_}
 use mathlib.Core.Bool.{true, false}
 use mathlib.Core.List.{List, [], _∷_}

@@ -28,7 +28,7 @@ abbrev pub lastAnswer : Answer → List Answer → Answer
 lastAnswer answer [] = answer
 lastAnswer answer (next ∷ answers) = lastAnswer next answers
 
--- ---- 01 "Driver streams": a write
+-- ---- RULES "Driver streams": a write
 
 -- The stores among answers that are numbered from n on: at which sample, where, and what.
 pub record StoredAt : Type 0 where

@@ -1,4 +1,4 @@
--- What happens to a chip (01 "Samples" and "Ticks"): samples, with ticks of its clock between them; and what a host notes of it.
+-- What happens to a chip (RULES "Samples" and "Ticks"): samples, with ticks of its clock between them; and what a host notes of it.
 -- Assumes nothing.
 use mathlib.Core.Path.{_≡_}
 use Prim.Native.Nat.{ℕ, suc, _≤_}
@@ -46,7 +46,7 @@ answers c [] = []
 answers c (sample s ∷ es) = chip.stepped c s .answer ∷ answers (happened c (sample s)) es
 answers c (tick ∷ es) = answers (happened c tick) es
 
--- 01 "Driver streams": what the host notes of DATA where a 14 raises RD. Where the chip does not drive it that is 2, which no
+-- RULES "Driver streams": what the host notes of DATA where a 14 raises RD. Where the chip does not drive it that is 2, which no
 -- bit is, so that the decoder refuses it.
 abbrev pub dataNumber : Line → ℕ
 dataNumber Released = 2

@@ -20,7 +20,7 @@ use Rattle.demands.specs.Demand2.{dueCommands, between}
 use Rattle.demands.specs.Demand3.{completed}
 use Rattle.demands.specs.Calls.{Call, afterCalls, eventsOf, sent, passed, returns, noted}
 
--- ---- 01 "What a sample is answered", for the samples of each stream, as the numbers that `step` returns
+-- ---- RULES "What a sample is answered", for the samples of each stream, as the numbers that `step` returns
 
 -- The first closes what stood open: nothing where CS was high (byte 32), otherwise a frame with unfinished bits or without
 -- (byte 34). The second opens a frame.

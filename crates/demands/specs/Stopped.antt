@@ -1,5 +1,5 @@
 -- A write that is stopped, all that is to be known of it: how the port stands after the first k samples of the stream, and what
--- these samples were answered. 01 "Driver streams" says which bits are sent when, "Inside a frame" what they make of the frame.
+-- these samples were answered. RULES "Driver streams" says which bits are sent when, "Inside a frame" what they make of the frame.
 -- Assumes nothing.
 use mathlib.Core.Path.{_≡_}
 use mathlib.Core.Bool.{Bool, cond}

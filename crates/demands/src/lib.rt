@@ -1,1 +1,1 @@
-// The mission's demands as theorems over the chip, the driver and the calls for C: all in specs/ and proofs/. Assumes nothing.
+// The demands of RULES as theorems over the chip, the driver and the calls for C: all in specs/ and proofs/. Assumes nothing.

@@ -1,4 +1,4 @@
--- The driver's cases of 01 "Cases on both sides", (c) and (d), computed from the definitions. Assumes nothing.
+-- The driver's cases of RULES "Cases on both sides", (c) and (d), computed from the definitions. Assumes nothing.
 use mathlib.Core.Path.{_≡_, _∙_, refl, ap}
 use mathlib.Core.List.{List, [], _∷_}
 use Prim.Native.Nat.{ℕ, _+_, _*_, _≤_}

@@ -1,4 +1,4 @@
--- 01 "Driver streams", its table of refusals: what each call answers, as a ladder of the table's rows. Assumes nothing.
+-- RULES "Driver streams", its table of refusals: what each call answers, as a ladder of the table's rows. Assumes nothing.
 use Prim.Native.Nat.{ℕ, _+_, _-_, _*_, _%_}
 use mathlib.Core.Bool.{Bool, not, _||_}
 use mathlib.Core.List.{List, [], _∷_}

@@ -1,4 +1,4 @@
--- 01 "Inside a frame": what each phase makes of a bit that is taken or offered, of opening and of closing.
+-- RULES "Inside a frame": what each phase makes of a bit that is taken or offered, of opening and of closing.
 -- Assumes nothing.
 use Prim.Native.Nat.{ℕ, _+_, _*_, _/_, _%_}
 use mathlib.Core.Bool.{Bool, cond}

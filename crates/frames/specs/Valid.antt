@@ -1,4 +1,4 @@
--- 01 "Inside a frame": what is stored is a nibble. Assumes nothing.
+-- RULES "Inside a frame": what is stored is a nibble. Assumes nothing.
 use Prim.Native.Nat.{_<_}
 use Rattle.frames.specs.declared.Upshot.{Upshot}
 use Rattle.frames.specs.declared.Upshot.the-variants.{Answered, Nibble, Code}

@@ -1,4 +1,4 @@
--- 01 "What the contracts owe": a contract determines its result. Assumes nothing.
+-- RULES "What the contracts owe": a contract determines its result. Assumes nothing.
 use mathlib.Core.Path.{_≡_}
 use mathlib.Core.List.{List}
 use Prim.Native.Nat.{ℕ}

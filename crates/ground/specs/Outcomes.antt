@@ -1,4 +1,4 @@
--- 01 "Driver streams": what a call that writes bytes comes to. Its number and its place, the bytes that it leaves, and the
+-- RULES "Driver streams": what a call that writes bytes comes to. Its number and its place, the bytes that it leaves, and the
 -- ladder of refusals that decides it. Assumes nothing.
 use mathlib.Core.Path.{_≡_}
 use mathlib.Core.Bool.{Bool, true, false, cond}
@@ -14,7 +14,7 @@ use Rattle.ground.specs.declared.Outcome.the-variants.{Written, Refused}
 use Rattle.ground.specs.Refusals.{refusalNumber, refusalPlace}
 use Rattle.ground.specs.Written.{over}
 
--- The paper's number of an outcome: a success has that of the bytes written, a refusal its own; the place, which only a refusal
+-- The number of an outcome: a success has that of the bytes written, a refusal its own; the place, which only a refusal
 -- can have; and which of the two it is.
 abbrev pub outcomeNumber : Outcome → ℕ
 outcomeNumber (Written count) = count
@@ -68,7 +68,7 @@ answered rungs bytes = ladder Refused rungs (Written (length bytes))
 unfoldable pub writtenAs : ℕ → List ℕ → Outcome
 writtenAs count buffer = ladder Refused (refusedIf (ltb (length buffer) recordLength) OutputShort ∷ []) (Written count)
 
--- ---- a ladder as the paper's table
+-- ---- a ladder as the table of refusals
 
 -- A row of the table: whether its test holds, the number, and the place.
 pub record Row : Type 0 where

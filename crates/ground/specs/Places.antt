@@ -1,4 +1,4 @@
--- 01 "Driver streams": the place of a fault is the lowest index at fault. Assumes nothing.
+-- RULES "Driver streams": the place of a fault is the lowest index at fault. Assumes nothing.
 use Prim.Native.Nat.{ℕ, suc}
 use mathlib.Core.Bool.{Bool, cond}
 use mathlib.Core.List.{List, [], _∷_}

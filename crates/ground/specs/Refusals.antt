@@ -1,4 +1,4 @@
--- 01 "Driver streams", its table of refusals: the number and the place of each. Assumes nothing.
+-- RULES "Driver streams", its table of refusals: the number and the place of each. Assumes nothing.
 use Prim.Native.Nat.{ℕ}
 use Rattle.ground.specs.declared.Refusal.{Refusal}
 use Rattle.ground.specs.declared.Refusal.the-variants.{SampleAbove, NothingAsked, OutOfRange, NibbleAbove, UndefinedCommand, OutputShort, NotedCount, NotedAbove, Malformed, MemoryCount}

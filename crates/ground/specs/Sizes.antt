@@ -1,7 +1,7 @@
--- 01, how much there is of a thing that several sections speak of. Assumes nothing.
+-- How much there is of a thing that several sections of RULES speak of. Assumes nothing.
 use Prim.Native.Nat.{ℕ}
 
--- "Which paper decides": the memory has 32 addresses.
+-- "Which sheet decides": the memory has 32 addresses.
 abbrev pub addresses : ℕ
 addresses = 32
 

@@ -1,4 +1,4 @@
-// What every crate above shares: the sizes of 01; its refusals and their numbers; what a call that writes bytes comes to; what
+// What every crate above shares: sizes; the refusals and their numbers; what a call that writes bytes comes to; what
 // it means that a contract determines its result; bits and bytes written over a buffer; and how one computed test becomes a
 // law. Assumes nothing.
 ghost use mathlib.Core.Path.{_≡_};
@@ -37,7 +37,7 @@ pub enum Refusal {
 }
 
 impl Refusal {
-    // The refusal's number in 01's table.
+    // The refusal's number in the table of RULES "Driver streams".
     pub fn number(self) -> u8
         ensures { λ r. ⌜ r ≡ refusalNumber self ⌝ }
     {

@@ -1,4 +1,4 @@
--- 01 "Driver streams" and the power-on of 01 "Commands", as calls for C: what each exported call returns, and the bytes that
+-- RULES "Driver streams" and the power-on of RULES "Commands", as calls for C: what each exported call returns, and the bytes that
 -- it leaves, for every list of bytes. Assumes nothing.
 use Prim.Native.Nat.{ℕ, _+_, _*_}
 use mathlib.Core.Bool.{cond}

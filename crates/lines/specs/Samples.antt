@@ -1,4 +1,4 @@
--- 01 "Samples": the levels of a sample, and the four rules in their house order. Assumes nothing.
+-- RULES "Samples": the levels of a sample, and the four rules in their house order. Assumes nothing.
 use Prim.Native.Nat.{ℕ, _+_, _*_, _/_, _%_}
 use mathlib.Core.Bool.{Bool, cond, not, _&&_}
 use lib.Dec.{eqb}

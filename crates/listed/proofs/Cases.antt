@@ -1,4 +1,4 @@
--- 01 "The listing": its two inputs, an empty one, a tick and one that stops, computed from the definition. Assumes nothing.
+-- RULES "The listing": its two inputs, an empty one, a tick and one that stops, computed from the definition. Assumes nothing.
 use mathlib.Core.Path.{_≡_, refl}
 use mathlib.Core.List.{List, [], _∷_}
 use Prim.Native.Nat.{ℕ}

@@ -1,4 +1,4 @@
--- 01 "The listing": what each byte of the input is, the lines, and the output as a whole. Assumes nothing.
+-- RULES "The listing": what each byte of the input is, the lines, and the output as a whole. Assumes nothing.
 use Prim.Native.Nat.{ℕ, zero, suc, _+_, _-_, _*_, _/_, _%_, min}
 use mathlib.Core.Bool.{cond, _&&_}
 use mathlib.Core.List.{List, [], _∷_, _++_}

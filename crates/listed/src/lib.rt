@@ -1,4 +1,4 @@
-// What the listing of an input is: all in specs/, with the listings that 01 prints computed in proofs/. Assumes nothing.
+// What the listing of an input is: all in specs/, with the listings that RULES prints computed in proofs/. Assumes nothing.
 
 // What a byte of the input is.
 pub enum Class {

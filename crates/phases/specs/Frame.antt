@@ -1,4 +1,4 @@
--- 01 "State record and simulator", bytes 32 to 39: the lines, a phase and DATA as bytes, which bytes are right, and what right
+-- RULES "State record and simulator", bytes 32 to 39: the lines, a phase and DATA as bytes, which bytes are right, and what right
 -- bytes say. Assumes nothing.
 use Prim.Native.Nat.{ℕ, _+_, _*_, _/_, _%_, _^_}
 use mathlib.Core.Bool.{Bool, true, false, cond, not, _&&_, _||_}

@@ -1,4 +1,4 @@
--- 01 "What a sample is answered" and "Inside a frame": which bits count as unfinished, and which address a frame has reached;
+-- RULES "What a sample is answered" and "Inside a frame": which bits count as unfinished, and which address a frame has reached;
 -- the numbers of phases and of DATA. Assumes nothing.
 use Prim.Native.Nat.{ℕ, _+_}
 use Rattle.ground.specs.Bits.{bitNumber}
@@ -56,7 +56,7 @@ positionOf (Writing count value at position) = position
 positionOf (Command count value) = 0
 positionOf Dead = 0
 
--- 01 "State record and simulator", byte 33: which phase it is.
+-- RULES "State record and simulator", byte 33: which phase it is.
 abbrev pub phaseNumber : Phase → ℕ
 phaseNumber Idle = 0
 phaseNumber (Ident count value) = 1
@@ -67,7 +67,7 @@ phaseNumber (Writing count value at position) = 5
 phaseNumber (Command count value) = 6
 phaseNumber Dead = 7
 
--- 01 "State record and simulator", byte 39: DATA released, low or high.
+-- RULES "State record and simulator", byte 39: DATA released, low or high.
 abbrev pub lineNumber : Line → ℕ
 lineNumber Released = 0
 lineNumber (Driven bit) = 1 + bitNumber bit

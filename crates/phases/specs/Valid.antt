@@ -1,4 +1,4 @@
--- 01 "State record and simulator", what is valid: a frame's ranges, and its couplings with CS and DATA. Assumes nothing.
+-- RULES "State record and simulator", what is valid: a frame's ranges, and its couplings with CS and DATA. Assumes nothing.
 use mathlib.Core.Path.{_≡_}
 use mathlib.Core.Bool.{Bool, true, false}
 use Prim.Native.Nat.{ℕ, _^_, _≤_, _<_}

@@ -1,4 +1,4 @@
--- 01 "Ticks", its pins: IRQ, BZ and its partner, whether a cell shows, and all that a chip shows. Assumes nothing.
+-- RULES "Ticks", its pins: IRQ, BZ and its partner, whether a cell shows, and all that a chip shows. Assumes nothing.
 use Prim.Native.Nat.{ℕ, _+_, _*_, _%_}
 use mathlib.Core.Bool.{Bool, false, not, _&&_}
 use mathlib.Core.List.{map}
@@ -53,7 +53,8 @@ shownBit s nibble c = bitNumber (shows s c (bitAt c nibble))
 unfoldable pub shownNibble : Settings → ℕ → ℕ
 shownNibble s nibble = shownBit s nibble 0 + 2 * shownBit s nibble 1 + 4 * shownBit s nibble 2 + 8 * shownBit s nibble 3
 
--- The pins of a chip. A cell shows as its address and common say (001's map): nibble s has the cells of SEG s, bit c that of COM c.
+-- The pins of a chip. A cell shows as its address and common say (the Chinese sheet's map): nibble s has the cells of SEG s, bit c
+-- that of COM c.
 unfoldable pub pinsShown : Chip → Pins
 pinsShown chip =
     record {

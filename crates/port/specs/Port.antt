@@ -1,4 +1,4 @@
--- 01 "Samples", of a port: the memory, the levels last seen, the frame and DATA. Assumes nothing.
+-- RULES "Samples", of a port: the memory, the levels last seen, the frame and DATA. Assumes nothing.
 use Prim.Native.Nat.{ℕ}
 use mathlib.Core.List.{List}
 use lib.ListN.{getD, set}

@@ -1,4 +1,4 @@
--- 01 "State record and simulator": which ports are valid. Assumes nothing.
+-- RULES "State record and simulator": which ports are valid. Assumes nothing.
 use mathlib.Core.Path.{_≡_}
 use mathlib.Core.List.{List, [], _∷_}
 use Prim.Native.Nat.{ℕ, _<_}

@@ -1,4 +1,4 @@
--- What power-on answers, by the paper's numbers: 29 unless the memory has 32 values, then 23 where one is above 15.
+-- What power-on answers, by the numbers of RULES: 29 unless the memory has 32 values, then 23 where one is above 15.
 -- Assumes nothing.
 use mathlib.Core.Path.{_≡_, refl}
 use mathlib.Core.Bool.{Bool, true, false, cond, not}

@@ -1,4 +1,4 @@
--- 01 "Commands", its power-on, of the whole chip; and its refusals in "Driver streams". Assumes nothing.
+-- RULES "Commands", its power-on, of the whole chip; and its refusals in "Driver streams". Assumes nothing.
 use Prim.Native.Nat.{ℕ}
 use mathlib.Core.Bool.{not}
 use mathlib.Core.List.{List, [], _∷_}
@@ -19,7 +19,7 @@ use Rattle.power.specs.declared.Start.{Start}
 use Rattle.power.specs.declared.Start.the-variants.{On, Refused}
 use Rattle.power.specs.declared.PoweredOn.{PoweredOn}
 
--- The paper's number and place for an answer: 0 where the chip is on, else the refusal's.
+-- The number and the place of an answer: 0 where the chip is on, else the refusal's.
 abbrev pub startNumber : Start → ℕ
 startNumber On = 0
 startNumber (Refused refusal) = refusalNumber refusal
@@ -36,7 +36,7 @@ freshChip memory =
       settings = powerOn;
     }
 
--- With an empty memory: 01 "The listing" begins so, and a refusal hands out such a chip.
+-- With an empty memory: RULES "The listing" begins so, and a refusal hands out such a chip.
 unfoldable pub emptyChip : Chip
 emptyChip = freshChip (replicate addresses 0)
 

@@ -1,4 +1,4 @@
--- 01 "Commands", its effects. Assumes nothing.
+-- RULES "Commands", its effects. Assumes nothing.
 use mathlib.Core.Bool.{true, false}
 use Rattle.clock.specs.declared.Source.{Source}
 use Rattle.clock.specs.declared.Source.the-variants.{Xtal, Rc, Ext}

@@ -1,4 +1,4 @@
--- 01 "State record and simulator", bytes 40 to 63: the settings' bytes in one list, and what follows from it. Assumes nothing.
+-- RULES "State record and simulator", bytes 40 to 63: the settings' bytes in one list, and what follows from it. Assumes nothing.
 use Prim.Native.Nat.{ℕ, _+_}
 use mathlib.Core.Bool.{Bool, cond, _&&_}
 use mathlib.Core.List.{List, [], _∷_, _++_, map}

@@ -1,4 +1,4 @@
--- The numbers that 01's "State record and simulator" gives the cases of each enum. Assumes nothing.
+-- The numbers that RULES "State record and simulator" gives the cases of each enum. Assumes nothing.
 use Prim.Native.Nat.{ℕ}
 use Rattle.ground.specs.declared.Refusal.the-variants.{Malformed}
 use Rattle.ground.specs.Refusals.{refusalNumber}

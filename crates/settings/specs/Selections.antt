@@ -1,4 +1,4 @@
--- 01 "State record and simulator", bytes 40 to 57: the cases of each selection, and what its coded byte reads to.
+-- RULES "State record and simulator", bytes 40 to 57: the cases of each selection, and what its coded byte reads to.
 -- Assumes nothing.
 use Prim.Native.Nat.{ℕ}
 use mathlib.Core.List.{List, [], _∷_}

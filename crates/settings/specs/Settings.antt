@@ -1,4 +1,4 @@
--- 01 "Commands", its power-on; and the settings with one of them changed and all others kept. Assumes nothing.
+-- RULES "Commands", its power-on; and the settings with one of them changed and all others kept. Assumes nothing.
 use Prim.Native.Nat.{ℕ}
 use mathlib.Core.Bool.{Bool, false}
 use Rattle.clock.specs.declared.Source.{Source}
@@ -107,7 +107,7 @@ flagTo flag c = withWatchdog (record { count = c .timer .watchdog .count; flag =
 abbrev pub testTo : Bool → Settings → Settings
 testTo x s = record { system = s .system; lcd = s .lcd; tone = s .tone; irq = s .irq; base = s .base; counters = s .counters; test = x }
 
--- 01 "Commands", power-on: all switches off, RC, F128, no IRQ source, all counters 0; the house adds bias 1/2, 2 commons and 4 kHz.
+-- RULES "Commands", power-on: all switches off, RC, F128, no IRQ source, all counters 0; the house adds bias 1/2, 2 commons and 4 kHz.
 abbrev pub powerOn : Settings
 powerOn =
     record {

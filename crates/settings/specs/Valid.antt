@@ -1,4 +1,4 @@
--- 01 "State record and simulator", what is valid: the ranges of the settings. Assumes nothing.
+-- RULES "State record and simulator", what is valid: the ranges of the settings. Assumes nothing.
 use Prim.Native.Nat.{_≤_}
 use Rattle.clock.specs.Valid.{CountersValid}
 use Rattle.settings.specs.declared.Settings.{Settings}

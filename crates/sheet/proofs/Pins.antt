@@ -1,4 +1,4 @@
--- The pins by the bytes of a record: each pin of the model is the paper's test of the bytes that say its settings. Assumes nothing.
+-- The pins by the bytes of a record: each pin of the model is the rules' test of the bytes that say its settings. Assumes nothing.
 use mathlib.Core.Path.{_≡_, _∙_, refl, sym, ap}
 use mathlib.Core.Bool.{Bool, true, _&&_}
 use mathlib.Core.List.{List, map}

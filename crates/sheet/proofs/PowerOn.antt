@@ -1,4 +1,4 @@
--- Power-on in bytes: no rung of its ladder refuses, and what it hands out is written as the bytes that the paper gives.
+-- Power-on in bytes: no rung of its ladder refuses, and what it hands out is written as the bytes that the rules give.
 -- Assumes nothing.
 use mathlib.Core.Path.{_≡_, refl, ap}
 use mathlib.Core.Bool.{false, not}

@@ -1,4 +1,4 @@
--- Valid records are exactly those in 01's ranges. Here: a valid one is in them, by what right bytes have; the other
+-- Valid records are exactly those in the rules' ranges. Here: a valid one is in them, by what right bytes have; the other
 -- way is in RangesLaws.antt. Assumes nothing.
 use mathlib.Core.Path.{_≡_, _∙_, refl, sym, ap, subst}
 use mathlib.Core.Bool.{true, false}

@@ -1,4 +1,4 @@
--- A record in 01's ranges is valid: each range meets its test, and what goes together is right phase by phase. Assumes nothing.
+-- A record in the rules' ranges is valid: each range meets its test, and what goes together is right phase by phase. Assumes nothing.
 use mathlib.Core.Path.{_≡_, refl}
 use mathlib.Core.Bool.{Bool, true, false, cond, not, _&&_, _||_}
 use mathlib.Core.List.{List, [], _∷_}

@@ -1,4 +1,4 @@
--- 01 "Commands", of the bytes of a record: what the ninth bit of a command makes of them, for each of the 256 codes.
+-- RULES "Commands", of the bytes of a record: what the ninth bit of a command makes of them, for each of the 256 codes.
 -- Assumes nothing.
 use mathlib.Core.Path.{_≡_}
 use mathlib.Core.Bool.{Bool, true, false, cond, not, _&&_, _||_}
@@ -22,7 +22,7 @@ pub record Codes : Type 0 where
 abbrev pub codes : ℕ → ℕ → (List ℕ → List ℕ) → Codes
 codes first last effect = record { first = first; last = last; effect = effect }
 
--- The table, row by row as the paper lists it, with the effects: which byte becomes which number.
+-- The table, row by row as RULES lists it, with the effects: which byte becomes which number.
 abbrev pub table : ℕ → List Codes
 table code =
     -- SYS DIS: system and LCD off, unless EXT is selected; SYS EN: system on

@@ -1,4 +1,4 @@
--- 01 "Inside a frame" and "What a sample is answered", of the bytes: what a WR rise and an RD fall return and leave, by byte
+-- RULES "Inside a frame" and "What a sample is answered", of the bytes: what a WR rise and an RD fall return and leave, by byte
 -- 33, the phase, and byte 34, the count of unfinished bits. Assumes nothing.
 use mathlib.Core.Path.{_≡_}
 use mathlib.Core.Bool.{cond}

@@ -1,5 +1,5 @@
 -- What a call leaves of the bytes that it is lent: a refusal all of them, and a success all but those that it reports as written. By
--- 01 "Driver streams" for the calls that write into a buffer, and by "State record and simulator" for those on a record.
+-- RULES "Driver streams" for the calls that write into a buffer, and by "State record and simulator" for those on a record.
 -- Assumes nothing.
 use mathlib.Core.Path.{_≡_}
 use mathlib.Core.List.{List}

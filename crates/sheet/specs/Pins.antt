@@ -1,4 +1,4 @@
--- 01 "Ticks", its pins, and what the call `pins` returns and writes by 01 "State record and simulator". Assumes nothing.
+-- RULES "Ticks", its pins, and what the call `pins` returns and writes by RULES "State record and simulator". Assumes nothing.
 use mathlib.Core.Path.{_≡_}
 use mathlib.Core.Bool.{Bool, true, not, _&&_, _||_}
 use mathlib.Core.List.{List}

@@ -1,4 +1,4 @@
--- 01 "Commands", its power-on, as the 64 bytes of 01 "State record and simulator". Assumes nothing.
+-- RULES "Commands", its power-on, as the 64 bytes of RULES "State record and simulator". Assumes nothing.
 use mathlib.Core.Path.{_≡_}
 use mathlib.Core.List.{List, [], _∷_, _++_}
 use Prim.Native.Nat.{ℕ, _≤_}

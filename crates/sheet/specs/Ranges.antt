@@ -1,4 +1,4 @@
--- 01 "State record and simulator", which bytes are a valid record: the range of each, in the paper's order, and which go
+-- RULES "State record and simulator", which bytes are a valid record: the range of each, in its table's order, and which go
 -- together. The numbers stand here apart from the tables of `recordValid`, so that a slip in one of the two is refused.
 -- Assumes nothing.
 use mathlib.Core.Path.{_≡_}

@@ -1,4 +1,4 @@
--- 01 "Samples", of the bytes: what a step returns and leaves, by the levels before it, byte 32, and its sample, each of them
+-- RULES "Samples", of the bytes: what a step returns and leaves, by the levels before it, byte 32, and its sample, each of them
 -- CS + 2 WR + 4 RD + 8 DATA. The first rule that applies. Assumes nothing.
 use mathlib.Core.Path.{_≡_}
 use mathlib.Core.Bool.{Bool, true, false, cond, not, _&&_}

@@ -1,5 +1,5 @@
--- The rules of 01 in its order, of the bytes, the calls and the streams; together they are what a host in C can hold the chip and
--- the driver to. The table of refusals is in crates/demands (Accepted.antt), the listing in crates/transcript. Assumes nothing.
+-- The rules in the order of RULES, of the bytes, the calls and the streams; together they are what a host in C can hold the chip and
+-- the driver to. The table of refusals is in crates/demands (Accepted.antt), the listing in crates/listed. Assumes nothing.
 use Rattle.sheet.specs.Samples.{SamplesSheet}
 use Rattle.sheet.specs.Commands.{CommandsSheet}
 use Rattle.sheet.specs.PowerOn.{PowerOnSheet}

@@ -1,4 +1,4 @@
--- 01 "Driver streams": the very samples of each stream, as numbers. Assumes nothing.
+-- RULES "Driver streams": the very samples of each stream, as numbers. Assumes nothing.
 use mathlib.Core.Path.{_≡_}
 use mathlib.Core.List.{List, [], _∷_, _++_}
 use Prim.Native.Nat.{ℕ, zero, suc, _+_, _*_, _/_, _%_, _≤_, _<_}

@@ -1,4 +1,4 @@
--- 01 "Ticks", of the bytes of a record: what a call of advance makes of them, counter by counter. Assumes nothing.
+-- RULES "Ticks", of the bytes of a record: what a call of advance makes of them, counter by counter. Assumes nothing.
 use mathlib.Core.Path.{_≡_}
 use mathlib.Core.Bool.{true, cond}
 use mathlib.Core.List.{List}

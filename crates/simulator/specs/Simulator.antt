@@ -1,4 +1,4 @@
--- 01 "State record and simulator": what each exported call returns, and the bytes that it leaves, for every list of bytes.
+-- RULES "State record and simulator": what each exported call returns, and the bytes that it leaves, for every list of bytes.
 -- Assumes nothing.
 use Prim.Native.Nat.{ℕ, _+_, _*_}
 use mathlib.Core.Bool.{not}

@@ -196,7 +196,7 @@ module _ (b : List ℕ) (begun : begins b ≡ true) where
                 };
           })
 
--- ---- the paper's numbers: reading accepts exactly the valid records and refuses all others with 28, writing refuses with 25
+-- ---- the numbers of RULES: reading accepts exactly the valid records and refuses all others with 28, writing refuses with 25
 
 module _ (b : List ℕ) where
   pub read-number : verdictNumber (recalledFrom b .answer) ≡ cond (recordValid b) 0 28

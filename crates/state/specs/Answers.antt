@@ -1,4 +1,4 @@
--- 01 "State record and simulator" and its refusals in "Driver streams": what reading and writing a record answer.
+-- RULES "State record and simulator" and its refusals in "Driver streams": what reading and writing a record answer.
 -- Assumes nothing.
 use Prim.Native.Nat.{ℕ}
 use mathlib.Core.Bool.{cond}
@@ -18,7 +18,7 @@ use Rattle.state.specs.declared.Verdict.{Verdict}
 use Rattle.state.specs.declared.Verdict.the-variants as verdict
 use Rattle.state.specs.Record.{portBytes, recordValid, recordOf, chipOf}
 
--- The paper's number: 0 for a valid record, else the refusal's.
+-- The number of a verdict: 0 for a valid record, else the refusal's.
 abbrev pub verdictNumber : Verdict → ℕ
 verdictNumber verdict.Valid = 0
 verdictNumber verdict.Invalid = refusalNumber Malformed

@@ -1,4 +1,4 @@
--- 01 "State record and simulator": the 64 bytes of a chip, which lists of bytes are valid, and the chip that they say.
+-- RULES "State record and simulator": the 64 bytes of a chip, which lists of bytes are valid, and the chip that they say.
 -- Assumes nothing.
 use Prim.Native.Nat.{ℕ}
 use mathlib.Core.Bool.{Bool, _&&_}

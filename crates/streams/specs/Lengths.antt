@@ -1,4 +1,4 @@
--- 01 "Driver streams", how long streams are: the numbers that the laws of their lengths cite. Assumes nothing.
+-- RULES "Driver streams", how long streams are: the numbers that the laws of their lengths cite. Assumes nothing.
 use Prim.Native.Nat.{ℕ}
 
 -- A write or a read has 21 samples beside its nibbles, and 8 for each nibble.

@@ -1,4 +1,4 @@
--- 01 "Driver streams": a stream sent into a buffer is written over its start, or refused with 25 where the buffer is shorter.
+-- RULES "Driver streams": a stream sent into a buffer is written over its start, or refused with 25 where the buffer is shorter.
 -- Assumes nothing.
 use Prim.Native.Nat.{ℕ}
 use mathlib.Core.List.{List, [], _∷_}

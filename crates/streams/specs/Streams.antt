@@ -1,4 +1,4 @@
--- 01 "Driver streams": the samples that a host sends for a write, a read and commands, and what a read's notes mean.
+-- RULES "Driver streams": the samples that a host sends for a write, a read and commands, and what a read's notes mean.
 -- Assumes nothing.
 use Prim.Native.Nat.{ℕ, zero, suc, _+_, _*_, _%_}
 use mathlib.Core.Bool.{Bool, true, false}
@@ -25,7 +25,7 @@ opening = 15 ∷ 14 ∷ []
 abbrev pub closing : List ℕ
 closing = 15 ∷ []
 
--- The three IDs of 01 "Inside a frame".
+-- The three IDs of RULES "Inside a frame".
 abbrev pub writeId : List Bool
 writeId = true ∷ false ∷ true ∷ []
 

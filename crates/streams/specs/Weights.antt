@@ -1,4 +1,4 @@
--- 01 "Driver streams": the bits of a number by their weights, which is how they are taken from it. Assumes nothing.
+-- RULES "Driver streams": the bits of a number by their weights, which is how they are taken from it. Assumes nothing.
 use Prim.Native.Nat.{ℕ, _*_, _/_, _%_}
 use mathlib.Core.Bool.{Bool}
 use mathlib.Core.List.{List, [], _∷_, _++_}

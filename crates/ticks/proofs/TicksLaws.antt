@@ -1,4 +1,4 @@
--- Laws of 01's "Ticks". Assumes nothing.
+-- Laws of RULES "Ticks". Assumes nothing.
 use mathlib.Core.Path.{_≡_}
 use Prim.Native.Nat.{ℕ, zero, suc, _+_, _-_, _<_}
 use native.Mathlib.Nat.{zero-add, suc-add, not-suc-le-zero}

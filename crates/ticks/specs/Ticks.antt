@@ -1,4 +1,4 @@
--- 01 "Ticks": what one tick of the system clock, and n of them, do to the settings. Assumes nothing.
+-- RULES "Ticks": what one tick of the system clock, and n of them, do to the settings. Assumes nothing.
 use Prim.Native.Nat.{ℕ, zero, suc}
 use mathlib.Core.Bool.{Bool, true, false, cond, _||_}
 use Rattle.clock.specs.declared.Source.{Source}
