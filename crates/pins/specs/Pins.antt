@@ -53,8 +53,7 @@ shownBit s nibble c = bitNumber (shows s c (bitAt c nibble))
 unfoldable pub shownNibble : Settings → ℕ → ℕ
 shownNibble s nibble = shownBit s nibble 0 + 2 * shownBit s nibble 1 + 4 * shownBit s nibble 2 + 8 * shownBit s nibble 3
 
--- The pins of a chip. A cell shows as its address and common say (the Chinese sheet's map): nibble s has the cells of SEG s, bit c
--- that of COM c.
+-- The pins of a chip. By the Chinese sheet's map nibble s has the cells of SEG s, bit c that of COM c.
 unfoldable pub pinsShown : Chip → Pins
 pinsShown chip =
     record {
