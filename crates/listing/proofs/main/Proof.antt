@@ -16,6 +16,21 @@ slice-aggregate-read-full c = search needs
 read-full-requires : tie.Need-read-full-requires
 read-full-requires c κs = search needs
 
+errno-requires : tie.Need-errno-requires
+errno-requires c κs = search needs
+
+slice-aggregate-fail : tie.Need-slice-aggregate-fail
+slice-aggregate-fail c = search needs
+
+fail-requires : tie.Need-fail-requires
+fail-requires c κs = search needs
+
+end-requires : tie.Need-end-requires
+end-requires c κs = search needs
+
+returns : tie.Need-returns
+returns c = search needs
+
 out-buffer-requires : tie.Need-out-buffer-requires
 out-buffer-requires c κs = search needs
 
@@ -39,23 +54,23 @@ array-share-prefix-out c =
     let at-list : _ = c .before .before .before .before in
     omega (arith, written-within _ _ (at-list .list .ensures) (c .before .written .given .1))
 
-slice-aggregate-write-all : tie.Need-slice-aggregate-write-all
-slice-aggregate-write-all c =
+slice-aggregate-print : tie.Need-slice-aggregate-print
+slice-aggregate-print c =
     let at-list : _ = c .before .before .before .before .before in
     let fits : _ = written-within _ _ (at-list .list .ensures) (c .before .before .written .given .1) in
     sym (length-take-le _ (at-list .list .last .1 .0) (omega arith))
 
-write-all-requires : tie.Need-write-all-requires
-write-all-requires c κs = search needs
+print-requires : tie.Need-print-requires
+print-requires c κs = search needs
 
 enum-told : tie.Need-enum-told
 enum-told c = search needs
 
-returns : tie.Need-returns
-returns c = search needs
-
 returns-2 : tie.Need-returns-2
 returns-2 c = search needs
+
+returns-3 : tie.Need-returns-3
+returns-3 c = search needs
 
 pub main-spec : {M : Type 1} → statement M
 main-spec =
@@ -64,6 +79,11 @@ main-spec =
     in-buffer-requires
     slice-aggregate-read-full
     read-full-requires
+    errno-requires
+    slice-aggregate-fail
+    fail-requires
+    end-requires
+    returns
     out-buffer-requires
     array-share-prefix-input
     slice-aggregate-list
@@ -71,8 +91,8 @@ main-spec =
     list-requires
     enum-known-written
     array-share-prefix-out
-    slice-aggregate-write-all
-    write-all-requires
+    slice-aggregate-print
+    print-requires
     enum-told
-    returns
-    returns-2)
+    returns-2
+    returns-3)
