@@ -1,6 +1,15 @@
-/* The HT1621 pack: the numbers that its libraries for C share. C99 and C++. */
+/* The HT1621 pack: the numbers that its calls for C share. C99 and C++.
+
+   ht1621_chip.h has the chip and ht1621_host.h the side that drives it: eight calls, in the archive libht1621.a.
+   ht1621_simulator.h has the chip's three calls under the plain names that they have in the archive libsimulator.a.
+   docs/RULES.md of the pack has the rules, and docs/PROMISES.md what is promised of each call. */
 #ifndef HT1621_H
 #define HT1621_H
+
+#define HT1621_VERSION "1.0.0"
+#define HT1621_VERSION_NUMBER 10000 /* 10,000 x 1 + 100 x 0 + 0, to compare with */
+
+/* ---- samples and answers ---- */
 
 /* A sample is the new level of each line, 0 to 15: the sum of those that are high. */
 #define HT1621_CS 1
@@ -24,6 +33,54 @@ enum {
     HT1621_CLASH = 11
 };
 
+/* ---- commands ---- */
+
+/* The code of each command: the upper eight of its nine bits; the ninth means nothing and is sent as 0.
+
+   Sketches for Arduino send the ID with a 0 after it and then a byte, the lower eight of the nine bits, so their bytes are twice these:
+   0x52, 0x30, 0x02, 0x06, 0x10, 0x0A there are HT1621_BIAS_3_4, HT1621_RC, HT1621_SYS_EN, HT1621_LCD_ON, HT1621_TONE_OFF,
+   HT1621_WDT_DIS here. Halve them: the driver takes 0x52 for TONE 4K, 0x02 for LCD OFF and 0x06 for TIMER EN, and refuses only the
+   other three. */
+enum {
+    HT1621_SYS_DIS = 0x00,   /* system and LCD off; does nothing while EXT is selected */
+    HT1621_SYS_EN = 0x01,
+    HT1621_LCD_OFF = 0x02,
+    HT1621_LCD_ON = 0x03,
+    HT1621_TIMER_DIS = 0x04,
+    HT1621_WDT_DIS = 0x05,
+    HT1621_TIMER_EN = 0x06,  /* time base on, and to IRQ */
+    HT1621_WDT_EN = 0x07,    /* time base on, and its time-out flag to IRQ */
+    HT1621_TONE_OFF = 0x08,
+    HT1621_TONE_ON = 0x09,
+    HT1621_CLR_TIMER = 0x0C,
+    HT1621_CLR_WDT = 0x0E,   /* clears the time base too */
+    HT1621_XTAL = 0x14,      /* the clock: a crystal of 32.768 kHz */
+    HT1621_RC = 0x18,        /* the chip's own 256 kHz */
+    HT1621_EXT = 0x1C,       /* 256 kHz from outside */
+    HT1621_BIAS_2_2 = 0x20,  /* bias 1/2 with 2, 3, 4 commons */
+    HT1621_BIAS_2_3 = 0x24,
+    HT1621_BIAS_2_4 = 0x28,
+    HT1621_BIAS_3_2 = 0x21,  /* bias 1/3 with 2, 3, 4 commons */
+    HT1621_BIAS_3_3 = 0x25,
+    HT1621_BIAS_3_4 = 0x29,
+    HT1621_TONE_4K = 0x40,   /* selects the tone, and turns nothing on */
+    HT1621_TONE_2K = 0x60,
+    HT1621_IRQ_DIS = 0x80,
+    HT1621_IRQ_EN = 0x88,
+    HT1621_F1 = 0xA0,        /* the time base at 1 Hz, and so on */
+    HT1621_F2 = 0xA1,
+    HT1621_F4 = 0xA2,
+    HT1621_F8 = 0xA3,
+    HT1621_F16 = 0xA4,
+    HT1621_F32 = 0xA5,
+    HT1621_F64 = 0xA6,
+    HT1621_F128 = 0xA7,
+    HT1621_TEST = 0xE0,      /* not for users of the chip; the model keeps a mark */
+    HT1621_NORMAL = 0xE3
+};
+
+/* ---- refusals ---- */
+
 /* Why a call was refused. A refused call changes no byte. */
 enum {
     HT1621_SAMPLE_ABOVE = 20,      /* a sample above 15 */
@@ -38,7 +95,24 @@ enum {
     HT1621_MEMORY_COUNT = 29       /* a power-on memory that is not 32 values */
 };
 
-/* The state record: a chip is these 64 bytes. A switch is 0 or 1. */
+/* Whether what a call returned is a refusal: a test for each call, since a step's answers, the pins and a number of bytes are told
+   from a refusal in different ways. */
+#define HT1621_STEP_REFUSED(result) (((result) & 255u) >= 20u)
+#define HT1621_ADVANCE_REFUSED(result) ((result) != 0u)
+#define HT1621_PINS_REFUSED(result) ((result) >= 24u)
+#define HT1621_POWER_ON_REFUSED(result) ((result) >> 31)
+#define HT1621_WRITE_REFUSED(result) ((result) >> 31)
+#define HT1621_READ_REFUSED(result) ((result) >> 31)
+#define HT1621_COMMANDS_REFUSED(result) ((result) >> 31)
+#define HT1621_DECODE_REFUSED(result) ((result) >> 31)
+
+/* Of a refusal, whichever the call: its number, and the lowest index at fault, which is 0 where the refusal has no place. */
+#define HT1621_REFUSAL(result) ((result) & 255u)
+#define HT1621_PLACE(result) ((result) >> 8 & 0x7fffffu)
+
+/* ---- the state record ---- */
+
+/* A chip is these 64 bytes. A switch is 0 or 1. */
 #define HT1621_RECORD_BYTES 64
 #define HT1621_ADDRESSES 32
 

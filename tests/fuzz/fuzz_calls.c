@@ -179,7 +179,7 @@ static void call_buffer(struct call *call) {
     memset(buffer, 0xa5, sizeof buffer);
     call->out = buffer, call->out_bytes = next_length();
     uint32_t result = compared(call);
-    if (HT1621_REFUSED(result)) return;
+    if (HT1621_WRITE_REFUSED(result)) return; /* the five that write streams, records and nibbles mark a refusal alike */
     if (call->kind == POWER_ON) memcpy(record, buffer, record_bytes = result);
     if (call->kind == WRITE || call->kind == READ || call->kind == COMMANDS) {
         memcpy(stream, buffer, stream_bytes = result);

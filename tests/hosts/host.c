@@ -1,12 +1,19 @@
-/* A host in C over both libraries, held to the paper: the worked stream, the cases on both sides, every damaged record, every
+/* A host in C over the calls, held to docs/RULES.md: the worked stream, the cases on both sides, every damaged record, every
    order of refusals that a length can show, buffers between guard bytes, and writes stopped at every sample. What is expected is
-   written here from the paper; nothing is taken from the code under test. Exits with 1 at the first fault. */
+   written here from the rules; nothing is taken from the code under test. Exits with 1 at the first fault. */
 #include <stdio.h>
 #include <stdlib.h>
 #include <string.h>
 
 #include "ht1621_host.h"
+#ifdef PREFIXED /* over libht1621.a, else over libsimulator.a and libhost.a */
+#include "ht1621_chip.h"
+#define step ht1621_step
+#define advance ht1621_advance
+#define pins ht1621_pins
+#else
 #include "ht1621_simulator.h"
+#endif
 
 enum { GUARD = 16, ROOM = 700 };
 
@@ -77,7 +84,7 @@ static int valid(const uint8_t *r)
     return in_data || (r[37] == 0 && r[38] == 0 && r[39] == 0);
 }
 
-/* Power-on as the paper lists it, byte by byte. */
+/* Power-on as the rules list it, byte by byte. */
 static void powered(uint8_t *r, const uint8_t *memory)
 {
     memset(r, 0, HT1621_RECORD_BYTES);
@@ -107,7 +114,7 @@ static void in_phase(uint8_t *r, uint8_t phase)
 
 static uint32_t refused(uint32_t number, uint32_t place) { return 0x80000000u + 256 * place + number; }
 
-/* All three calls on one record: refused with 28, or taken, as the paper has it; and no byte changed by a refusal. */
+/* All three calls on one record: refused with 28, or taken, as the rules have it; and no byte changed by a refusal. */
 static void three_calls(const uint8_t *record)
 {
     uint32_t malformed = valid(record) ? 0 : HT1621_MALFORMED;
@@ -180,7 +187,8 @@ static void streams(void)
                 struct lent w = lend(room), r = lend(room);
                 CHECK(ht1621_write(first, nibbles, count, w.body, room) == due);
                 CHECK(ht1621_read(first, count, r.body, room) == due);
-                size_t written = HT1621_REFUSED(due) ? 0 : due;
+                CHECK(HT1621_WRITE_REFUSED(due) == HT1621_READ_REFUSED(due));
+                size_t written = HT1621_WRITE_REFUSED(due) ? 0 : due;
                 CHECK(written == 0 || (w.body[0] == 15 && w.body[1] == 14 && w.body[needed - 1] == 15));
                 CHECK(intact(w, written) && intact(r, written));
             }
@@ -209,8 +217,8 @@ static void commands_and_notes(void)
         struct lent o = lend(count / 4 + 1);
         uint32_t fits = count == 0 || count > 128 || count % 4 ? refused(26, 0) : (uint32_t)(count / 4);
         CHECK(ht1621_decode(noted, count, o.body, o.bytes) == fits);
-        CHECK(HT1621_REFUSED(fits) || o.body[0] == 5);
-        CHECK(intact(o, HT1621_REFUSED(fits) ? 0 : fits));
+        CHECK(HT1621_DECODE_REFUSED(fits) || o.body[0] == 5);
+        CHECK(intact(o, HT1621_DECODE_REFUSED(fits) ? 0 : fits));
     }
     noted[6] = 2;
     CHECK(ht1621_decode(noted, 8, out, 0) == refused(27, 6));
@@ -222,12 +230,61 @@ static void commands_and_notes(void)
             uint32_t answer = count != 32 ? refused(29, 0) : room < 64 ? refused(25, 0) : 64;
             CHECK(ht1621_power_on(memory, count, o.body, room) == answer);
             powered(due, memory);
-            CHECK(HT1621_REFUSED(answer) || memcmp(o.body, due, 64) == 0);
-            CHECK(intact(o, HT1621_REFUSED(answer) ? 0 : 64));
+            CHECK(HT1621_POWER_ON_REFUSED(answer) || memcmp(o.body, due, 64) == 0);
+            CHECK(intact(o, HT1621_POWER_ON_REFUSED(answer) ? 0 : 64));
         }
     memory[31] = 16;
     CHECK(ht1621_power_on(memory, 32, out, 0) == refused(23, 31));
     CHECK(ht1621_power_on(memory, 31, out, 0) == refused(29, 0));
+}
+
+/* Each call's own test for a refusal, on a success and on a refusal; the number, and the place. */
+static void refusals(void)
+{
+    uint8_t chip[HT1621_RECORD_BYTES], out[ROOM], values[HT1621_ADDRESSES] = {0}, code = HT1621_SYS_EN;
+    uint32_t r = ht1621_power_on(values, sizeof values, chip, sizeof chip);
+    CHECK(!HT1621_POWER_ON_REFUSED(r) && r == HT1621_RECORD_BYTES);
+    CHECK(!HT1621_STEP_REFUSED(step(chip, sizeof chip, 14)));
+    CHECK(!HT1621_ADVANCE_REFUSED(advance(chip, sizeof chip, 65535)));
+    CHECK(!HT1621_PINS_REFUSED(pins(chip, sizeof chip, out, sizeof out)));
+    CHECK(!HT1621_WRITE_REFUSED(ht1621_write(0, values, 1, out, sizeof out)));
+    CHECK(!HT1621_READ_REFUSED(ht1621_read(0, 1, out, sizeof out)));
+    CHECK(!HT1621_COMMANDS_REFUSED(ht1621_commands(&code, 1, out, sizeof out)));
+    CHECK(!HT1621_DECODE_REFUSED(ht1621_decode(values, 4, out, sizeof out)));
+    r = step(chip, sizeof chip, 16);
+    CHECK(HT1621_STEP_REFUSED(r) && HT1621_REFUSAL(r) == HT1621_SAMPLE_ABOVE && HT1621_PLACE(r) == 0);
+    r = advance(chip, 63, 1);
+    CHECK(HT1621_ADVANCE_REFUSED(r) && HT1621_REFUSAL(r) == HT1621_MALFORMED && HT1621_PLACE(r) == 0);
+    r = pins(chip, sizeof chip, out, 31);
+    CHECK(HT1621_PINS_REFUSED(r) && HT1621_REFUSAL(r) == HT1621_OUTPUT_SHORT && HT1621_PLACE(r) == 0);
+    values[3] = 16, code = 0x0A;
+    r = ht1621_power_on(values, sizeof values, chip, sizeof chip);
+    CHECK(HT1621_POWER_ON_REFUSED(r) && HT1621_REFUSAL(r) == HT1621_NIBBLE_ABOVE && HT1621_PLACE(r) == 3);
+    r = ht1621_write(0, values, 4, out, sizeof out);
+    CHECK(HT1621_WRITE_REFUSED(r) && HT1621_REFUSAL(r) == HT1621_NIBBLE_ABOVE && HT1621_PLACE(r) == 3);
+    r = ht1621_read(31, 2, out, sizeof out);
+    CHECK(HT1621_READ_REFUSED(r) && HT1621_REFUSAL(r) == HT1621_OUT_OF_RANGE && HT1621_PLACE(r) == 0);
+    r = ht1621_commands(&code, 1, out, sizeof out);
+    CHECK(HT1621_COMMANDS_REFUSED(r) && HT1621_REFUSAL(r) == HT1621_UNDEFINED_COMMAND && HT1621_PLACE(r) == 0);
+    r = ht1621_decode(values, 4, out, sizeof out);
+    CHECK(HT1621_DECODE_REFUSED(r) && HT1621_REFUSAL(r) == HT1621_NOTED_ABOVE && HT1621_PLACE(r) == 3);
+}
+
+/* Slices of 0 bytes at NULL, and slices at odd addresses. */
+static void pointers(void)
+{
+    uint8_t memory[HT1621_ADDRESSES + 1] = {0}, chip[HT1621_RECORD_BYTES + 1], out[ROOM];
+    CHECK(step(NULL, 0, 15) == HT1621_MALFORMED && advance(NULL, 0, 1) == HT1621_MALFORMED);
+    CHECK(pins(NULL, 0, NULL, 0) == HT1621_MALFORMED);
+    CHECK(ht1621_power_on(NULL, 0, NULL, 0) == refused(29, 0) && ht1621_write(0, NULL, 0, NULL, 0) == refused(21, 0));
+    CHECK(ht1621_read(0, 1, NULL, 0) == refused(25, 0) && ht1621_commands(NULL, 0, NULL, 0) == refused(21, 0));
+    CHECK(ht1621_decode(NULL, 0, NULL, 0) == refused(26, 0));
+    for (size_t odd = 0; odd < 2; odd++) {
+        CHECK(ht1621_power_on(memory + odd, HT1621_ADDRESSES, chip + odd, HT1621_RECORD_BYTES) == HT1621_RECORD_BYTES);
+        CHECK(step(chip + odd, HT1621_RECORD_BYTES, 14) == HT1621_FRAME_OPENED && advance(chip + odd, HT1621_RECORD_BYTES, 3) == 0);
+        CHECK(pins(chip + odd, HT1621_RECORD_BYTES, out + odd, HT1621_ADDRESSES) == 0);
+        CHECK(ht1621_write(0, memory + odd, HT1621_ADDRESSES, out + odd, 277) == 277);
+    }
 }
 
 static void put(uint8_t *chip, const uint8_t *samples, size_t count)
@@ -242,6 +299,49 @@ static void command(uint8_t *chip, uint8_t code)
     put(chip, stream, ht1621_commands(&code, 1, stream, sizeof stream));
 }
 
+/* The header's name of each command, by a byte of the settings before and after it. */
+static void named_commands(void)
+{
+    static const struct {
+        uint8_t code, at, before, after;
+    } named[] = {
+        {HT1621_SYS_DIS, HT1621_AT_SYSTEM, 1, 0},        {HT1621_SYS_EN, HT1621_AT_SYSTEM, 0, 1},
+        {HT1621_LCD_OFF, HT1621_AT_LCD, 1, 0},           {HT1621_LCD_ON, HT1621_AT_LCD, 0, 1},
+        {HT1621_TIMER_DIS, HT1621_AT_IRQ_SOURCE, 1, 0},  {HT1621_TIMER_DIS, HT1621_AT_IRQ_SOURCE, 2, 2},
+        {HT1621_WDT_DIS, HT1621_AT_IRQ_SOURCE, 2, 0},    {HT1621_WDT_DIS, HT1621_AT_IRQ_SOURCE, 1, 1},
+        {HT1621_TIMER_EN, HT1621_AT_IRQ_SOURCE, 0, 1},   {HT1621_WDT_EN, HT1621_AT_IRQ_SOURCE, 0, 2},
+        {HT1621_TONE_OFF, HT1621_AT_TONE, 1, 0},         {HT1621_TONE_ON, HT1621_AT_TONE, 0, 1},
+        {HT1621_CLR_TIMER, HT1621_AT_B, 9, 0},           {HT1621_CLR_TIMER, HT1621_AT_W, 3, 3},
+        {HT1621_CLR_WDT, HT1621_AT_B, 9, 0},             {HT1621_CLR_WDT, HT1621_AT_W, 3, 0},
+        {HT1621_XTAL, HT1621_AT_SOURCE, 1, 0},           {HT1621_RC, HT1621_AT_SOURCE, 0, 1},
+        {HT1621_EXT, HT1621_AT_SOURCE, 0, 2},            {HT1621_BIAS_2_2, HT1621_AT_BIAS, 3, 2},
+        {HT1621_BIAS_2_3, HT1621_AT_BIAS, 3, 2},         {HT1621_BIAS_2_4, HT1621_AT_BIAS, 3, 2},
+        {HT1621_BIAS_3_2, HT1621_AT_BIAS, 2, 3},         {HT1621_BIAS_3_3, HT1621_AT_BIAS, 2, 3},
+        {HT1621_BIAS_3_4, HT1621_AT_BIAS, 2, 3},         {HT1621_BIAS_2_2, HT1621_AT_COMMONS, 4, 2},
+        {HT1621_BIAS_2_3, HT1621_AT_COMMONS, 4, 3},      {HT1621_BIAS_2_4, HT1621_AT_COMMONS, 2, 4},
+        {HT1621_BIAS_3_2, HT1621_AT_COMMONS, 4, 2},      {HT1621_BIAS_3_3, HT1621_AT_COMMONS, 4, 3},
+        {HT1621_BIAS_3_4, HT1621_AT_COMMONS, 2, 4},      {HT1621_TONE_4K, HT1621_AT_PITCH, 2, 4},
+        {HT1621_TONE_2K, HT1621_AT_PITCH, 4, 2},         {HT1621_IRQ_DIS, HT1621_AT_IRQ, 1, 0},
+        {HT1621_IRQ_EN, HT1621_AT_IRQ, 0, 1},            {HT1621_F1, HT1621_AT_RATE, 7, 0},
+        {HT1621_F2, HT1621_AT_RATE, 7, 1},               {HT1621_F4, HT1621_AT_RATE, 7, 2},
+        {HT1621_F8, HT1621_AT_RATE, 7, 3},               {HT1621_F16, HT1621_AT_RATE, 7, 4},
+        {HT1621_F32, HT1621_AT_RATE, 7, 5},              {HT1621_F64, HT1621_AT_RATE, 7, 6},
+        {HT1621_F128, HT1621_AT_RATE, 0, 7},             {HT1621_TEST, HT1621_AT_TEST, 0, 1},
+        {HT1621_NORMAL, HT1621_AT_TEST, 1, 0},
+    };
+    static const uint8_t sketch[6] = {0x52, 0x30, 0x02, 0x06, 0x10, 0x0A};
+    static const uint8_t ours[6] = {HT1621_BIAS_3_4, HT1621_RC, HT1621_SYS_EN, HT1621_LCD_ON, HT1621_TONE_OFF, HT1621_WDT_DIS};
+    uint8_t memory[HT1621_ADDRESSES] = {0}, chip[HT1621_RECORD_BYTES];
+    for (size_t i = 0; i < sizeof named / sizeof named[0]; i++) {
+        powered(chip, memory);
+        chip[named[i].at] = named[i].before;
+        command(chip, named[i].code);
+        CHECK(chip[named[i].at] == named[i].after);
+    }
+    for (size_t i = 0; i < sizeof ours; i++)
+        CHECK(sketch[i] == 2 * ours[i]);
+}
+
 static uint32_t irq_after(const uint8_t *chip, uint16_t ticks)
 {
     uint8_t later[HT1621_RECORD_BYTES], cells[HT1621_ADDRESSES];
@@ -250,7 +350,7 @@ static uint32_t irq_after(const uint8_t *chip, uint16_t ticks)
     return HT1621_PINS_IRQ_LOW(pins(later, sizeof later, cells, sizeof cells));
 }
 
-/* The paper's cases (a), (b), (f) to (j), on the linked chip; (c), (d), (e) and (k) are among the streams above. */
+/* The cases of the rules, (a), (b), (f) to (j), on the linked chip; (c), (d), (e) and (k) are among the streams above. */
 static void cases(void)
 {
     uint8_t memory[HT1621_ADDRESSES] = {0}, chip[HT1621_RECORD_BYTES];
@@ -260,13 +360,13 @@ static void cases(void)
     CHECK(step(chip, sizeof chip, 14) == HT1621_FRAME_OPENED);
     command(chip, 0x2B);
     CHECK(chip[HT1621_AT_COMMONS] == 4 && chip[HT1621_AT_BIAS] == 3);
-    command(chip, 0x01); /* SYS EN */
-    command(chip, 0x06); /* TIMER EN */
-    command(chip, 0x88); /* IRQ EN */
+    command(chip, HT1621_SYS_EN);
+    command(chip, HT1621_TIMER_EN);
+    command(chip, HT1621_IRQ_EN);
     CHECK(irq_after(chip, 1023) == 0 && irq_after(chip, 1024) == 1);
-    command(chip, 0x14); /* XTAL */
+    command(chip, HT1621_XTAL);
     CHECK(irq_after(chip, 127) == 0 && irq_after(chip, 128) == 1);
-    command(chip, 0x07); /* WDT EN */
+    command(chip, HT1621_WDT_EN);
     CHECK(irq_after(chip, 1023) == 0 && irq_after(chip, 1024) == 1);
     CHECK(advance(chip, sizeof chip, 300) == 0 && chip[HT1621_AT_B] == 44 && chip[HT1621_AT_W] == 1);
     command(chip, 0x0D);
@@ -304,8 +404,8 @@ static void interrupted(void)
     for (size_t i = 0; i < count; i++)
         nibbles[i] = (uint8_t)(15 - (first + i) % 16);
     ht1621_power_on(memory, sizeof memory, start, sizeof start);
-    command(start, 0x01); /* SYS EN */
-    command(start, 0x07); /* WDT EN */
+    command(start, HT1621_SYS_EN);
+    command(start, HT1621_WDT_EN);
     uint32_t samples = ht1621_write(first, nibbles, count, stream, sizeof stream);
     for (uint32_t stop = 0; stop <= samples; stop++) {
         uint8_t chip[HT1621_RECORD_BYTES], twin[HT1621_RECORD_BYTES];
@@ -331,9 +431,12 @@ int main(void)
     damaged_records();
     streams();
     commands_and_notes();
+    refusals();
+    pointers();
+    named_commands();
     cases();
     glass();
     interrupted();
-    printf("host.c: %lu facts of the paper hold of the linked libraries\n", checks);
+    printf("host.c: %lu facts of the rules hold of the linked libraries\n", checks);
     return 0;
 }

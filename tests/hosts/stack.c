@@ -1,0 +1,111 @@
+/* How much stack each call takes, at most: it runs on a stack of ours, painted before and looked at after. Prints a line for each
+   call, its name and the bytes below those of a call that does nothing. */
+#define _XOPEN_SOURCE 700
+#include <stdio.h>
+#include <stdlib.h>
+#include <string.h>
+#include <ucontext.h>
+
+#include "ht1621_chip.h"
+#include "ht1621_host.h"
+
+enum { STACK = 1 << 16, PAINT = 0xa5, ROOM = 700 };
+
+static uint8_t stack[STACK], record[HT1621_RECORD_BYTES], out[ROOM];
+static ucontext_t caller, callee;
+
+static void (*tried)(void);
+
+static void nothing(void) {}
+
+/* What begins and ends a context uses stack as well: the call is made deeper than that goes. */
+static void deeper(void)
+{
+    volatile uint8_t below[4096];
+    below[0] = 0;
+    tried();
+    below[sizeof below - 1] = 0;
+}
+
+/* Every sample of a stream: all phases, and every way through a step but those of a refusal. */
+static void step_through(const uint8_t *samples, uint32_t count)
+{
+    for (uint32_t i = 0; i < count; i++)
+        ht1621_step(record, sizeof record, samples[i]);
+}
+
+static uint8_t write_stream[ROOM], read_stream[ROOM], command_stream[ROOM];
+static uint32_t written, reading, commanding;
+static const uint8_t zeros[4 * HT1621_ADDRESSES];
+static const uint8_t commands[] = {
+    HT1621_SYS_EN, HT1621_TIMER_EN, HT1621_WDT_EN, HT1621_TONE_ON, HT1621_BIAS_3_4, HT1621_CLR_WDT, HT1621_F1, HT1621_IRQ_EN};
+
+static void all_steps(void)
+{
+    step_through(write_stream, written);
+    step_through(read_stream, reading);
+    step_through(command_stream, commanding);
+    ht1621_step(record, sizeof record, 16);
+    ht1621_step(record, 1, 0);
+}
+static void all_advances(void)
+{
+    for (uint32_t n = 0; n < 65536; n += 4369)
+        ht1621_advance(record, sizeof record, (uint16_t)n);
+}
+static void all_pins(void) { ht1621_pins(record, sizeof record, out, sizeof out); }
+static void power_on(void) { ht1621_power_on(zeros, HT1621_ADDRESSES, record, sizeof record); }
+static void all_writes(void)
+{
+    for (size_t n = 0; n <= HT1621_ADDRESSES; n++)
+        ht1621_write(0, zeros, n, out, sizeof out);
+}
+static void all_reads(void)
+{
+    for (size_t n = 0; n <= HT1621_ADDRESSES; n++)
+        ht1621_read(0, n, out, sizeof out);
+}
+static void all_commands(void)
+{
+    for (size_t n = 0; n <= sizeof commands; n++)
+        ht1621_commands(commands, n, out, sizeof out);
+}
+static void all_decodes(void)
+{
+    for (size_t n = 0; n <= sizeof zeros; n += 4)
+        ht1621_decode(zeros, n, out, sizeof out);
+}
+
+/* How far down the stack a function goes. */
+static size_t depth(void (*function)(void))
+{
+    size_t untouched = 0;
+    memset(stack, PAINT, sizeof stack);
+    tried = function;
+    if (getcontext(&callee) != 0)
+        exit(1);
+    callee.uc_stack.ss_sp = stack;
+    callee.uc_stack.ss_size = sizeof stack;
+    callee.uc_link = &caller;
+    makecontext(&callee, deeper, 0);
+    if (swapcontext(&caller, &callee) != 0)
+        exit(1);
+    while (untouched < sizeof stack && stack[untouched] == PAINT)
+        untouched++;
+    return sizeof stack - untouched;
+}
+
+int main(void)
+{
+    static const struct {
+        const char *name;
+        void (*function)(void);
+    } calls[] = {{"ht1621_power_on", power_on}, {"ht1621_step", all_steps}, {"ht1621_advance", all_advances}, {"ht1621_pins", all_pins},
+                 {"ht1621_write", all_writes}, {"ht1621_read", all_reads}, {"ht1621_commands", all_commands}, {"ht1621_decode", all_decodes}};
+    written = ht1621_write(0, zeros, HT1621_ADDRESSES, write_stream, sizeof write_stream);
+    reading = ht1621_read(0, HT1621_ADDRESSES, read_stream, sizeof read_stream);
+    commanding = ht1621_commands(commands, sizeof commands, command_stream, sizeof command_stream);
+    for (size_t i = 0; i < sizeof calls / sizeof calls[0]; i++)
+        printf("%s %lu\n", calls[i].name, (unsigned long)(depth(calls[i].function) - depth(nothing)));
+    return 0;
+}
