@@ -10,16 +10,31 @@
 /* ---- the board: four pins, and a clock ---- */
 
 static uint8_t chip[HT1621_RECORD_BYTES], levels = 15;
+static int data_is_output = 1;
 static unsigned long passed_ns;
+
+/* On no board may two drive one line. */
+static void look(void)
+{
+    if (data_is_output && chip[HT1621_AT_DATA] != 0) {
+        printf("DATA is driven from both sides\n");
+        exit(EXIT_FAILURE);
+    }
+}
 
 static void set_pin(uint8_t line, int high)
 {
     levels = (uint8_t)(high ? levels | line : levels & ~line);
     ht1621_step(chip, sizeof chip, levels);
+    look();
 }
 
-static void data_as_input(void) {}
-static void data_as_output(void) {}
+static void data_as_input(void) { data_is_output = 0; }
+static void data_as_output(void)
+{
+    data_is_output = 1;
+    look();
+}
 static int data_pin(void) { return chip[HT1621_AT_DATA] == 2; }
 static void wait_ns(unsigned long ns) { passed_ns += ns; }
 
@@ -37,11 +52,11 @@ static size_t play(const uint8_t *stream, size_t samples, unsigned long half_ns,
         uint8_t next = stream[i], changed = now ^ next;
         if (!(next & HT1621_RD))
             data_as_input();
-        else if ((next & HT1621_CS) || !(next & HT1621_WR))
-            data_as_output();
         for (size_t line = 0; line < sizeof lines; line++)
             if (changed & lines[line])
                 set_pin(lines[line], (next & lines[line]) != 0);
+        if (next & HT1621_CS)
+            data_as_output();
         wait_ns(half_ns);
         if (changed & next & HT1621_RD)
             noted[notes++] = (uint8_t)data_pin();

@@ -2,7 +2,8 @@
 
    ht1621_chip.h has the chip and ht1621_host.h the side that drives it: eight calls, in the archive libht1621.a.
    ht1621_simulator.h has the chip's three calls under the plain names that they have in the archive libsimulator.a.
-   docs/RULES.md of the pack has the rules, and docs/PROMISES.md what is promised of each call. */
+   RULES.md, in docs/ of the pack and in share/doc/ht1621 where it is installed, has the rules, and PROMISES.md what is promised of
+   each call. */
 #ifndef HT1621_H
 #define HT1621_H
 
@@ -67,7 +68,7 @@ enum {
     HT1621_TONE_2K = 0x60,
     HT1621_IRQ_DIS = 0x80,
     HT1621_IRQ_EN = 0x88,
-    HT1621_F1 = 0xA0,        /* the time base at 1 Hz, and so on */
+    HT1621_F1 = 0xA0,        /* the rate of the time base: 1 Hz with a crystal, and so on to 128 Hz */
     HT1621_F2 = 0xA1,
     HT1621_F4 = 0xA2,
     HT1621_F8 = 0xA3,
@@ -112,16 +113,17 @@ enum {
 
 /* ---- the state record ---- */
 
-/* A chip is these 64 bytes. A switch is 0 or 1. */
+/* A chip is these 64 bytes. A switch is 0 or 1. Bytes that are not as said here are no record, and every call refuses them. */
 #define HT1621_RECORD_BYTES 64
 #define HT1621_ADDRESSES 32
 
 enum {
     HT1621_AT_MEMORY = 0,      /* 32 bytes, a nibble each */
     HT1621_AT_LINES = 32,      /* the sample last taken */
-    HT1621_AT_PHASE = 33,      /* 0 no frame, 1 ID, 2 read address, 3 write address, 4 read, 5 write, 6 command, 7 dead */
+    HT1621_AT_PHASE = 33,      /* 0 exactly while CS is high, no frame; in one 1 ID, 2 and 3 the address of a read and of a write, 4 reading,
+                                  5 writing, 6 commands, 7 dead */
     HT1621_AT_COUNT = 34,      /* how many bits are unfinished: at most 2, 5, 5, 3, 8 in phases 1, 2, 3, 5, 6, else 0 */
-    HT1621_AT_VALUE = 35,      /* their value, first bit highest: two bytes, the low one first */
+    HT1621_AT_VALUE = 35,      /* their value, first bit highest, below 2 to the count: two bytes, the low one first */
     HT1621_AT_ADDRESS = 37,    /* 0 to 31, and 0 outside phases 4 and 5, as the two after it */
     HT1621_AT_POSITION = 38,   /* of the bit to be read next, 0 to 3 */
     HT1621_AT_DATA = 39,       /* 0 released, 1 low, 2 high */

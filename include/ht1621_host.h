@@ -1,7 +1,7 @@
 /* The HT1621 pack: the host's side, for who drives the chip. C99 and C++; link libht1621.a, or libhost.a, which has these five calls
    alone.
 
-   The streams are samples, a byte each (ht1621.h), to be put on the lines one after the other (docs/PLAYING.md of the pack). Nothing is kept
+   The streams are samples, a byte each (ht1621.h), to be put on the lines one after the other (PLAYING.md, beside RULES.md). Nothing is kept
    between calls, and nothing is allocated.
 
    A slice is a pointer and then the number of bytes that the call may touch. It needs no alignment. A slice of 0 bytes may have any
