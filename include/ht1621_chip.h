@@ -22,7 +22,7 @@ extern "C" {
 
 /* Gives the chip one sample of its four lines. Returns the answer and its two details; HT1621_STEP_* take them apart. C cuts a
    number that is passed for a sample to its low eight bits: 271 arrives as 15.
-   Refused (HT1621_STEP_REFUSED), in this order: HT1621_MALFORMED; HT1621_SAMPLE_ABOVE. Stack: at most 896 bytes. */
+   Refused (HT1621_STEP_REFUSED), in this order: HT1621_MALFORMED; HT1621_SAMPLE_ABOVE. Stack: at most 1024 bytes. */
 uint32_t ht1621_step(uint8_t *record, size_t record_bytes, uint8_t sample);
 
 #define HT1621_STEP_ANSWER(result) ((result) & 255u)
@@ -33,14 +33,14 @@ uint32_t ht1621_step(uint8_t *record, size_t record_bytes, uint8_t sample);
    in a second with XTAL, of 256,000 with RC (as at power-on) or EXT, where eight ticks do what one does with XTAL. While the chip does not
    run (system off, and not EXT) a tick changes nothing. C cuts a number above 65,535 to its low sixteen bits, 65,536 to 0: a second takes
    several calls at 256 kHz.
-   Refused (HT1621_ADVANCE_REFUSED): HT1621_MALFORMED. Stack: at most 192 bytes. */
+   Refused (HT1621_ADVANCE_REFUSED): HT1621_MALFORMED. Stack: at most 256 bytes. */
 uint32_t ht1621_advance(uint8_t *record, size_t record_bytes, uint16_t ticks);
 
 /* Says what the pins do, and writes to the first 32 bytes of `cells` what the glass shows: bit c of byte s is the
    cell at SEG s and COM c. A longer `cells` is accepted, and no byte after the 32nd is touched. HT1621_PINS_* take the
    result apart.
    Refused (HT1621_PINS_REFUSED), in this order: HT1621_MALFORMED; HT1621_OUTPUT_SHORT, where `cells` is shorter than 32 bytes.
-   Stack: at most 192 bytes. */
+   Stack: at most 256 bytes. */
 uint32_t ht1621_pins(const uint8_t *record, size_t record_bytes, uint8_t *cells, size_t cells_bytes);
 
 #define HT1621_PINS_IRQ_LOW(result) ((result) & 1u)
