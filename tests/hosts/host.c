@@ -187,7 +187,6 @@ static void streams(void)
                 struct lent w = lend(room), r = lend(room);
                 CHECK(ht1621_write(first, nibbles, count, w.body, room) == due);
                 CHECK(ht1621_read(first, count, r.body, room) == due);
-                CHECK(HT1621_WRITE_REFUSED(due) == HT1621_READ_REFUSED(due));
                 size_t written = HT1621_WRITE_REFUSED(due) ? 0 : due;
                 CHECK(written == 0 || (w.body[0] == 15 && w.body[1] == 14 && w.body[needed - 1] == 15));
                 CHECK(intact(w, written) && intact(r, written));
@@ -328,10 +327,13 @@ static void named_commands(void)
         {HT1621_F32, HT1621_AT_RATE, 7, 5},              {HT1621_F64, HT1621_AT_RATE, 7, 6},
         {HT1621_F128, HT1621_AT_RATE, 0, 7},             {HT1621_TEST, HT1621_AT_TEST, 0, 1},
         {HT1621_NORMAL, HT1621_AT_TEST, 1, 0},
+        /* what a sketch's 0x52, 0x02 and 0x06 are taken for: TONE 4K, LCD OFF, TIMER EN */
+        {0x52, HT1621_AT_PITCH, 2, 4},                   {0x02, HT1621_AT_LCD, 1, 0},
+        {0x06, HT1621_AT_IRQ_SOURCE, 0, 1},
     };
-    static const uint8_t sketch[6] = {0x52, 0x30, 0x02, 0x06, 0x10, 0x0A};
-    static const uint8_t ours[6] = {HT1621_BIAS_3_4, HT1621_RC, HT1621_SYS_EN, HT1621_LCD_ON, HT1621_TONE_OFF, HT1621_WDT_DIS};
-    uint8_t memory[HT1621_ADDRESSES] = {0}, chip[HT1621_RECORD_BYTES];
+    static const uint8_t sketch[6] = {0x52, 0x02, 0x06, 0x30, 0x10, 0x0A};
+    static const uint8_t ours[6] = {HT1621_BIAS_3_4, HT1621_SYS_EN, HT1621_LCD_ON, HT1621_RC, HT1621_TONE_OFF, HT1621_WDT_DIS};
+    uint8_t memory[HT1621_ADDRESSES] = {0}, chip[HT1621_RECORD_BYTES], out[ROOM];
     for (size_t i = 0; i < sizeof named / sizeof named[0]; i++) {
         powered(chip, memory);
         chip[named[i].at] = named[i].before;
@@ -339,7 +341,7 @@ static void named_commands(void)
         CHECK(chip[named[i].at] == named[i].after);
     }
     for (size_t i = 0; i < sizeof ours; i++)
-        CHECK(sketch[i] == 2 * ours[i]);
+        CHECK(sketch[i] == 2 * ours[i] && ht1621_commands(&sketch[i], 1, out, sizeof out) == (i < 3 ? 27 : refused(24, 0)));
 }
 
 static uint32_t irq_after(const uint8_t *chip, uint16_t ticks)
