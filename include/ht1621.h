@@ -7,8 +7,8 @@
 #ifndef HT1621_H
 #define HT1621_H
 
-#define HT1621_VERSION "1.0.0"
-#define HT1621_VERSION_NUMBER 10000 /* 10,000 x 1 + 100 x 0 + 0, to compare with */
+#define HT1621_VERSION "2.0.0"
+#define HT1621_VERSION_NUMBER 20000 /* 10,000 x 2 + 100 x 0 + 0, to compare with */
 
 /* ---- samples and answers ---- */
 
@@ -66,7 +66,7 @@ enum {
     HT1621_BIAS_3_4 = 0x29,
     HT1621_TONE_4K = 0x40,   /* selects the tone, and turns nothing on */
     HT1621_TONE_2K = 0x60,
-    HT1621_IRQ_DIS = 0x80,
+    HT1621_IRQ_DIS = 0x80,   /* output off, and the time-out flag cleared */
     HT1621_IRQ_EN = 0x88,
     HT1621_F1 = 0xA0,        /* the rate of the time base: 1 Hz with a crystal, and so on to 128 Hz */
     HT1621_F2 = 0xA1,

@@ -113,7 +113,7 @@ static uint32_t obey(uint8_t *r, uint8_t code)
         break;
     case TONE_4K: r[HT1621_AT_PITCH] = 4; break;
     case TONE_2K: r[HT1621_AT_PITCH] = 2; break;
-    case IRQ_DIS: r[HT1621_AT_IRQ] = 0; break;
+    case IRQ_DIS: r[HT1621_AT_IRQ] = r[HT1621_AT_FLAG] = 0; break;
     case IRQ_EN: r[HT1621_AT_IRQ] = 1; break;
     case RATE: r[HT1621_AT_RATE] = code & 7; break;
     case TEST: r[HT1621_AT_TEST] = 1; break;

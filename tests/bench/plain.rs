@@ -87,7 +87,8 @@ fn obey(r: &mut Record, code: u8) -> u32 {
         0x20..=0x2b => (r[BIAS], r[COMMONS]) = (2 + code % 2, 2 + code / 4 % 4),
         0x40..=0x5f => r[PITCH] = 4,
         0x60..=0x7f => r[PITCH] = 2,
-        0x80..=0x9f => r[IRQ] = code / 8 % 2,
+        0x80..=0x87 | 0x90..=0x97 => (r[IRQ], r[FLAG]) = (0, 0),
+        0x88..=0x9f => r[IRQ] = 1,
         0xa0..=0xbf => r[RATE] = code % 8,
         _ => r[TEST] = (code == 0xe0) as u8,
     }

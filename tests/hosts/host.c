@@ -321,12 +321,13 @@ static void named_commands(void)
         {HT1621_BIAS_3_2, HT1621_AT_COMMONS, 4, 2},      {HT1621_BIAS_3_3, HT1621_AT_COMMONS, 4, 3},
         {HT1621_BIAS_3_4, HT1621_AT_COMMONS, 2, 4},      {HT1621_TONE_4K, HT1621_AT_PITCH, 2, 4},
         {HT1621_TONE_2K, HT1621_AT_PITCH, 4, 2},         {HT1621_IRQ_DIS, HT1621_AT_IRQ, 1, 0},
-        {HT1621_IRQ_EN, HT1621_AT_IRQ, 0, 1},            {HT1621_F1, HT1621_AT_RATE, 7, 0},
-        {HT1621_F2, HT1621_AT_RATE, 7, 1},               {HT1621_F4, HT1621_AT_RATE, 7, 2},
-        {HT1621_F8, HT1621_AT_RATE, 7, 3},               {HT1621_F16, HT1621_AT_RATE, 7, 4},
-        {HT1621_F32, HT1621_AT_RATE, 7, 5},              {HT1621_F64, HT1621_AT_RATE, 7, 6},
-        {HT1621_F128, HT1621_AT_RATE, 0, 7},             {HT1621_TEST, HT1621_AT_TEST, 0, 1},
-        {HT1621_NORMAL, HT1621_AT_TEST, 1, 0},
+        {HT1621_IRQ_DIS, HT1621_AT_FLAG, 1, 0},          {HT1621_IRQ_DIS, HT1621_AT_W, 3, 3},
+        {HT1621_IRQ_EN, HT1621_AT_IRQ, 0, 1},            {HT1621_IRQ_EN, HT1621_AT_FLAG, 1, 1},
+        {HT1621_F1, HT1621_AT_RATE, 7, 0},               {HT1621_F2, HT1621_AT_RATE, 7, 1},
+        {HT1621_F4, HT1621_AT_RATE, 7, 2},               {HT1621_F8, HT1621_AT_RATE, 7, 3},
+        {HT1621_F16, HT1621_AT_RATE, 7, 4},              {HT1621_F32, HT1621_AT_RATE, 7, 5},
+        {HT1621_F64, HT1621_AT_RATE, 7, 6},              {HT1621_F128, HT1621_AT_RATE, 0, 7},
+        {HT1621_TEST, HT1621_AT_TEST, 0, 1},             {HT1621_NORMAL, HT1621_AT_TEST, 1, 0},
         /* what a sketch's 0x52, 0x02 and 0x06 are taken for: TONE 4K, LCD OFF, TIMER EN */
         {0x52, HT1621_AT_PITCH, 2, 4},                   {0x02, HT1621_AT_LCD, 1, 0},
         {0x06, HT1621_AT_IRQ_SOURCE, 0, 1},
@@ -375,6 +376,22 @@ static void cases(void)
     CHECK(chip[HT1621_AT_B] == 0 && chip[HT1621_AT_W] == 1);
     command(chip, 0x0F);
     CHECK(chip[HT1621_AT_B] == 0 && chip[HT1621_AT_W] == 0);
+}
+
+/* A time-out that IRQ DIS lets go of: after IRQ EN the pin floats until w has come round once more, 1,024 base ticks after the last. */
+static void time_out(void)
+{
+    static const uint8_t begun[] = {HT1621_SYS_EN, HT1621_XTAL, HT1621_WDT_EN, HT1621_IRQ_EN};
+    uint8_t memory[HT1621_ADDRESSES] = {0}, chip[HT1621_RECORD_BYTES];
+    powered(chip, memory);
+    for (size_t i = 0; i < sizeof begun; i++)
+        command(chip, begun[i]);
+    CHECK(advance(chip, sizeof chip, 1024) == 0 && irq_after(chip, 0) == 1);
+    command(chip, HT1621_IRQ_DIS);
+    CHECK(irq_after(chip, 0) == 0 && irq_after(chip, 1024) == 0);
+    CHECK(advance(chip, sizeof chip, 300) == 0);
+    command(chip, HT1621_IRQ_EN);
+    CHECK(irq_after(chip, 0) == 0 && irq_after(chip, 723) == 0 && irq_after(chip, 724) == 1);
 }
 
 /* A cell shows where the chip runs, the LCD is on, the common is driven, and the memory has a 1; by the commands given so far. */
@@ -437,6 +454,7 @@ int main(void)
     pointers();
     named_commands();
     cases();
+    time_out();
     glass();
     interrupted();
     printf("host.c: %lu facts of the rules hold of the linked libraries\n", checks);

@@ -5,7 +5,7 @@ use std::collections::BTreeSet;
 
 // Every code in a command frame of a chip with everything on, and of one with everything off; the ninth bit, which is
 // ignored, is 0 for half of the codes on each. Then what depends on a selection: SYS DIS on the clock, TIMER DIS and
-// WDT DIS on the source.
+// WDT DIS on the source; and IRQ DIS and IRQ EN, which depend on nothing.
 pub fn codes(script: &mut Script) {
     for (name, state, last) in [("on", ON, 0), ("off", OFF, 1)] {
         script.words(&format!("every code, everything {name}"));
@@ -21,6 +21,14 @@ pub fn codes(script: &mut Script) {
                 let state = record(&[ON, &[(41, clock), (50, source)], COMMAND]);
                 script.capture(&state, &sent(&format!("{code:08b}0")));
             }
+        }
+    }
+    script.words("IRQ DIS and IRQ EN for each source, output and flag");
+    for state in 0..12u8 {
+        let (source, output, flag) = (state / 4, state / 2 % 2, state % 2);
+        for code in [0x80, 0x88] {
+            let state = record(&[ON, &[(47, output), (50, source), (51, flag)], COMMAND]);
+            script.capture(&state, &sent(&format!("{code:08b}0")));
         }
     }
     script.words("commands that follow each other in one frame, and a frame that stops within one");
@@ -68,6 +76,14 @@ pub fn rates_and_flag(script: &mut Script) {
         script.capture(&record(&[TIMED, before, &[(51, 1)]]), "t");
         script.advance(&record(&[TIMED, before, &[(51, 1), (55, 255), (56, 2)]]), 60_000);
         script.advance(&record(&[before, &[(51, 1), (40, 1), (41, 0)]]), 60_000);
+    }
+    script.words("a time-out that IRQ DIS lets go of, and the next, two ticks later, before and after IRQ EN");
+    let [off, on] = ["10000000", "10001000"].map(|code| closed(&format!("100{code}0")));
+    for w in [3, 2] {
+        let low = record(&[TIMED, &[(47, 1), (50, 2), (51, 1), (55, 254), (56, w)]]);
+        for (between, after) in [("", ""), ("", "t"), ("", "tt"), ("t", ""), ("tt", "")] {
+            script.capture(&low, &(off.clone() + between + &on + after));
+        }
     }
     script.words("cases h, i and j of the rules");
     for (clock, source, last) in [(0, 2, 1024), (0, 1, 128), (1, 1, 1024), (2, 2, 8192)] {

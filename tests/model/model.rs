@@ -584,7 +584,10 @@ impl Model {
             }
             Name::Tone4k => settings.tone_kind = 4,
             Name::Tone2k => settings.tone_kind = 2,
-            Name::IrqDis => settings.irq = 0,
+            Name::IrqDis => {
+                settings.irq = 0;
+                settings.flag = 0;
+            }
             Name::IrqEn => settings.irq = 1,
             Name::Rate => settings.rate = carried(pattern, b'r', code),
             Name::Test => settings.test = 1,

@@ -218,6 +218,22 @@ fn tick_cases(tally: &mut Tally) {
     tally.same("(j) 1,024", 1, ticked(&slow, 1024).pins().0);
 }
 
+// IRQ DIS lets go of a time-out: SYS EN, XTAL, F128, CLR WDT, WDT EN, IRQ EN, and 1,024 ticks; then IRQ DIS and IRQ EN, with
+// ticks between them and after them.
+fn time_out_case(tally: &mut Tally) {
+    let low = ticked(&commanded(&[0x01, 0x14, 0xA7, 0x0E, 0x07, 0x88]), 1024);
+    tally.same("timed out", 1, low.pins().0);
+    for &(between, after, pins) in [(0, 0, 0), (0, 1023, 0), (0, 1024, 1), (1023, 0, 0), (1023, 1, 1), (1024, 0, 1)].iter() {
+        let mut chip = low.clone();
+        feed(&mut chip, &commands(&[0x80], 27).expect("IRQ DIS"));
+        tally.same("let go", 0, chip.record()[51]);
+        chip = ticked(&chip, between);
+        tally.same("output off", 0, chip.pins().0);
+        feed(&mut chip, &commands(&[0x88], 27).expect("IRQ EN"));
+        tally.same("timed out again", pins, ticked(&chip, after).pins().0);
+    }
+}
+
 // A chip after so many single ticks.
 fn ticked(chip: &Model, ticks: u32) -> Model {
     let mut chip = chip.clone();
@@ -535,9 +551,9 @@ fn effect_cases(tally: &mut Tally) {
         (&[], 0x29, &[(43, 3), (44, 4)]),
         (&[(46, 2)], 0x5F, &[(46, 4)]),
         (&[], 0x60, &[(46, 2)]),
-        (all_on, 0x80, &[(47, 0)]),
-        (all_on, 0x97, &[(47, 0)]),
-        (&[], 0x88, &[(47, 1)]),
+        (all_on, 0x80, &[(47, 0), (51, 0)]),
+        (&[(50, 2), (51, 1), (54, 77), (55, 201), (56, 3)], 0x97, &[(51, 0)]),
+        (&[(51, 1)], 0x88, &[(47, 1)]),
         (&[], 0x9F, &[(47, 1)]),
         (counted, 0xA0, &[(48, 0)]),
         (counted, 0xBB, &[(48, 3)]),
@@ -644,6 +660,7 @@ fn main() {
         command_cases,
         clear_cases,
         tick_cases,
+        time_out_case,
         decode_cases,
         listing_cases,
         stored_cases,

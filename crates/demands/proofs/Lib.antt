@@ -16,3 +16,4 @@ pub mod SentLaws
 pub mod SettingsLaws
 pub mod StoppedLaws
 pub mod StreamLevels
+pub mod TimeOut

@@ -6,3 +6,4 @@ pub mod Demand3
 pub mod Events
 pub mod Records
 pub mod Stopped
+pub mod TimeOut

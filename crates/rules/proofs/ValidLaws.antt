@@ -52,7 +52,9 @@ effect-valid Ext256k p s v = v
 effect-valid (BiasCom bias commons) p s v = v
 effect-valid Tone4k p s v = v
 effect-valid Tone2k p s v = v
-effect-valid IrqDis p s v = v
+effect-valid IrqDis p s v =
+    let timer = v .1 .timer in
+    (v .0, with-timer s v (record { divider = timer .divider; base = timer .base; watchdog = timer .watchdog }))
 effect-valid IrqEn p s v = v
 effect-valid (Rate r) p s v = (omega arith, v .1)
 effect-valid Test p s v = v

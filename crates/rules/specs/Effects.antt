@@ -9,7 +9,7 @@ use Rattle.settings.specs.declared.IrqSource.{IrqSource}
 use Rattle.settings.specs.declared.IrqSource.the-variants.{Neither, TimeBase, Flag}
 use Rattle.settings.specs.declared.Settings.{Settings}
 use Rattle.clock.specs.Ticks.{timerCleared, watchdogCleared}
-use Rattle.settings.specs.Settings.{systemTo, sourceTo, lcdTo, displayTo, toneTo, pitchTo, irqTo, irqSourceTo, timeBaseTo, rateTo, timerTo, testTo}
+use Rattle.settings.specs.Settings.{systemTo, sourceTo, lcdTo, displayTo, toneTo, pitchTo, irqTo, irqSourceTo, timeBaseTo, rateTo, countersTo, timerTo, flagTo, testTo}
 
 -- SYS DIS does nothing at EXT; otherwise the system and the LCD go off.
 abbrev pub systemOff : Source → Settings → Settings
@@ -35,6 +35,10 @@ timerOff s = irqSourceTo (withoutTimeBase (s .irq .source)) s
 abbrev pub watchdogOff : Settings → Settings
 watchdogOff s = timeBaseTo false (irqSourceTo (withoutFlag (s .irq .source)) s)
 
+-- IRQ DIS turns the output off and clears the time-out flag. w stands, and sets the flag again when it next returns to 0.
+abbrev pub irqOff : Settings → Settings
+irqOff s = irqTo false (countersTo (flagTo false (s .counters)) s)
+
 -- What each command does to the settings.
 unfoldable pub effect : Command → Settings → Settings
 effect SysDis s = systemOff (s .system .source) s
@@ -55,7 +59,7 @@ effect Ext256k s = sourceTo Ext s
 effect (BiasCom bias commons) s = displayTo bias commons s
 effect Tone4k s = pitchTo FourK s
 effect Tone2k s = pitchTo TwoK s
-effect IrqDis s = irqTo false s
+effect IrqDis s = irqOff s
 effect IrqEn s = irqTo true s
 effect (Rate r) s = rateTo r s
 effect Test s = testTo true s

@@ -1,6 +1,6 @@
 // What a command does to the settings, and the settings at power-on. All goes by value. Assumes nothing.
 ghost use mathlib.Core.Path.{_≡_};
-ghost use Rattle.rules.specs.Effects.{withoutTimeBase, withoutFlag, systemOff, timerOff, watchdogOff, effect};
+ghost use Rattle.rules.specs.Effects.{withoutTimeBase, withoutFlag, systemOff, timerOff, watchdogOff, irqOff, effect};
 ghost use Rattle.settings.specs.Settings.{powerOn};
 ghost use Rattle.settings.specs.Settings.{systemTo, sourceTo, lcdTo, displayTo, toneTo, pitchTo, irqTo, irqSourceTo, timeBaseTo, rateTo, timerTo, testTo};
 use clock::BaseCounter;
@@ -191,6 +191,16 @@ fn watchdog_off(settings: Settings) -> Settings
     time_base_to(irq_source_to(settings, without_flag(source)), false)
 }
 
+// IRQ DIS: the output goes off, and the time-out flag with it.
+fn irq_off(settings: Settings) -> Settings
+    ensures { λ r. ⌜ r ≡ irqOff settings ⌝ }
+{
+    let mut next = settings;
+    next.irq.on = false;
+    next.counters.timer.watchdog.flag = false;
+    next
+}
+
 // The settings as a command leaves them.
 pub fn obeyed(settings: Settings, command: Command) -> Settings
     ensures { λ r. ⌜ r ≡ effect command settings ⌝ }
@@ -214,7 +224,7 @@ pub fn obeyed(settings: Settings, command: Command) -> Settings
         Command::BiasCom(bias, commons) => display_to(settings, bias, commons),
         Command::Tone4k => pitch_to(settings, Pitch::FourK),
         Command::Tone2k => pitch_to(settings, Pitch::TwoK),
-        Command::IrqDis => irq_to(settings, false),
+        Command::IrqDis => irq_off(settings),
         Command::IrqEn => irq_to(settings, true),
         Command::Rate(rate) => rate_to(settings, rate),
         Command::Test => test_to(settings, true),

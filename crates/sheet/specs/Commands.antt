@@ -52,9 +52,9 @@ table code =
     -- the frequency of the tone: 4k, 2k
     ∷ codes 0x40 0x5F (λ b. set b 46 4)
     ∷ codes 0x60 0x7F (λ b. set b 46 2)
-    -- IRQ DIS, IRQ EN: the output
-    ∷ codes 0x80 0x87 (λ b. set b 47 0)
-    ∷ codes 0x90 0x97 (λ b. set b 47 0)
+    -- IRQ DIS: the output off, and the flag 0; IRQ EN: the output on
+    ∷ codes 0x80 0x87 (λ b. set (set b 47 0) 51 0)
+    ∷ codes 0x90 0x97 (λ b. set (set b 47 0) 51 0)
     ∷ codes 0x88 0x8F (λ b. set b 47 1)
     ∷ codes 0x98 0x9F (λ b. set b 47 1)
     -- the rate, F1 to F128

@@ -127,14 +127,14 @@ pitch-to-requires-2 c κs = search needs
 enum-told-18 : tie.Need-enum-told-18
 enum-told-18 c = search needs
 
-irq-to-requires : tie.Need-irq-to-requires
-irq-to-requires c κs = search needs
+irq-off-requires : tie.Need-irq-off-requires
+irq-off-requires c κs = search needs
 
 enum-told-19 : tie.Need-enum-told-19
 enum-told-19 c = search needs
 
-irq-to-requires-2 : tie.Need-irq-to-requires-2
-irq-to-requires-2 c κs = search needs
+irq-to-requires : tie.Need-irq-to-requires
+irq-to-requires c κs = search needs
 
 enum-known-command-2 : tie.Need-enum-known-command-2
 enum-known-command-2 c = search needs
@@ -231,11 +231,11 @@ returns-18 c = simp (c .pitch-to2 .ensures, c .before .enum-told17 .given .1)
 
 returns-19 : tie.Need-returns-19
 unfolding effect
-returns-19 c = simp (c .irq-to .ensures, c .before .enum-told18 .given .1)
+returns-19 c = simp (c .irq-off .ensures, c .before .enum-told18 .given .1)
 
 returns-20 : tie.Need-returns-20
 unfolding effect
-returns-20 c = simp (c .irq-to2 .ensures, c .before .enum-told19 .given .1)
+returns-20 c = simp (c .irq-to .ensures, c .before .enum-told19 .given .1)
 
 returns-21 : tie.Need-returns-21
 unfolding effect
@@ -294,9 +294,9 @@ obeyed-spec =
     enum-told-17
     pitch-to-requires-2
     enum-told-18
-    irq-to-requires
+    irq-off-requires
     enum-told-19
-    irq-to-requires-2
+    irq-to-requires
     enum-known-command-2
     rate-to-requires
     enum-told-20

@@ -1,0 +1,156 @@
+-- A time-out that IRQ DIS has let go of: a tick sets the flag exactly where w comes back to 0, whatever flag and output were, and so
+-- the ticks after IRQ DIS set it as those of the settings left alone come round. Assumes nothing.
+use mathlib.Core.Path.{_≡_, _∙_, refl, sym, ap}
+use mathlib.Core.Bool.{Bool, true, false, cond, not, _&&_, _||_, or-false, or-assoc, or-comm, and-false, not-and-self}
+use Prim.Native.Nat.{ℕ, zero, suc, _+_, _%_}
+use native.Mathlib.Nat.{zero-add, suc-add}
+use native.Mathlib.Omega.{arith}
+use lib.Dec.{eqb}
+use borrow.Author.Tests.{eqb-true, ne-eqb}
+use Rattle.clock.specs.declared.Source.{Source}
+use Rattle.clock.specs.declared.Source.the-variants.{Xtal, Rc, Ext}
+use Rattle.clock.specs.declared.Counters.{Counters}
+use Rattle.commands.specs.declared.Command.the-variants.{IrqDis, IrqEn}
+use Rattle.clock.specs.Sizes.{watchdogSize}
+use Rattle.clock.specs.Ticks.{prescalerStepped, tonerStepped, dividerStepped, baseStepped, watchdogStepped, due, timerStepped, baseTicked, prescaledTick, countersTicked}
+use Rattle.settings.specs.declared.IrqSource.{IrqSource}
+use Rattle.settings.specs.declared.IrqSource.the-variants.{Flag}
+use Rattle.settings.specs.declared.Settings.{Settings}
+use Rattle.settings.specs.Settings.{irqTo, irqSourceTo, countersTo, flagTo}
+use Rattle.rules.specs.Effects.{effect}
+use Rattle.ticks.specs.Ticks.{running, ticked, advanced}
+use Rattle.pins.specs.Pins.{irqLow}
+use Rattle.demands.specs.TimeOut.{TimedOut, w, cameBack, comesRound, LetsGo, IrqDisLetsGo}
+
+-- ---- w
+
+-- a step to 0 is a return
+step-back : (n : ℕ) → cameBack n ((n + 1) % watchdogSize) ≡ eqb ((n + 1) % watchdogSize) 0
+step-back n = by (eqb ((n + 1) % watchdogSize) 0) refl
+  where
+    by : (there : Bool) → eqb ((n + 1) % watchdogSize) 0 ≡ there → (not (eqb n 0) && there) ≡ there
+    by true e =
+        let z = eqb-true ((n + 1) % watchdogSize) 0 e in
+        ap (λ (here : Bool). not here && true) (ne-eqb n 0 (omega (arith, z)))
+    by false e = and-false (not (eqb n 0))
+
+-- and where w stands there is none, so the flag stands too
+stands : (flag : Bool) (n : ℕ) → flag ≡ (flag || cameBack n n)
+stands flag n = sym (ap (λ (b : Bool). flag || b) (not-and-self (eqb n 0)) ∙ or-false flag)
+
+-- ---- a tick of the counters
+
+abbrev round : Counters → ℕ
+round c = c .timer .watchdog .count
+
+-- after a tick the flag is set if it was, or if w has come back to 0; nothing else goes by the flag
+abbrev Flags : (Counters → Counters) → Type 0
+Flags tick = (flag : Bool) (c : Counters) → tick (flagTo flag c) ≡ flagTo (flag || cameBack (round c) (round (tick c))) (tick c)
+
+-- a base tick with its tests for parameters: the time base is on, the rate's turn has come, b comes back to 0
+abbrev base-tick : Bool → Bool → Bool → Counters → Counters
+base-tick on turn full c =
+    record {
+      prescaler = c .prescaler;
+      toner = tonerStepped (c .toner);
+      timer =
+          cond on
+          (cond turn
+          (record {
+            divider = dividerStepped (c .timer .divider);
+            base = baseStepped (c .timer .base);
+            watchdog = cond full (watchdogStepped (c .timer .watchdog)) (c .timer .watchdog);
+          })
+          (record { divider = dividerStepped (c .timer .divider); base = c .timer .base; watchdog = c .timer .watchdog }))
+          (c .timer);
+    }
+
+base-flags : (on turn full : Bool) → Flags (base-tick on turn full)
+base-flags true true true flag c =
+    ap (λ (f : Bool). flagTo f (base-tick true true true c))
+    (or-comm (eqb ((round c + 1) % watchdogSize) 0) flag ∙ ap (λ (b : Bool). flag || b) (sym (step-back (round c))))
+base-flags true true false flag c = ap (λ (f : Bool). flagTo f (base-tick true true false c)) (stands flag (round c))
+base-flags true false full flag c = ap (λ (f : Bool). flagTo f (base-tick true false full c)) (stands flag (round c))
+base-flags false turn full flag c = ap (λ (f : Bool). flagTo f (base-tick false turn full c)) (stands flag (round c))
+
+baseTicked-flags : (on : Bool) (rate : ℕ) → Flags (baseTicked on rate)
+unfolding baseTicked timerStepped
+baseTicked-flags on rate flag c =
+    base-flags on (due rate (dividerStepped (c .timer .divider) .count)) (eqb (baseStepped (c .timer .base) .count) 0) flag c
+
+prescaledTick-flags : (on : Bool) (rate : ℕ) → Flags (prescaledTick on rate)
+unfolding prescaledTick
+prescaledTick-flags on rate flag c = by (eqb (prescalerStepped (c .prescaler) .count) 0)
+  where
+    next : Counters
+    next = record { prescaler = prescalerStepped (c .prescaler); toner = c .toner; timer = c .timer }
+
+    by : (full : Bool) → cond full (baseTicked on rate (flagTo flag next)) (flagTo flag next)
+        ≡ flagTo (flag || cameBack (round c) (round (cond full (baseTicked on rate next) next))) (cond full (baseTicked on rate next) next)
+    by true = baseTicked-flags on rate flag next
+    by false = ap (λ (f : Bool). flagTo f next) (stands flag (round c))
+
+countersTicked-flags : (source : Source) (on : Bool) (rate : ℕ) → Flags (countersTicked source on rate)
+unfolding countersTicked
+countersTicked-flags Xtal on rate = baseTicked-flags on rate
+countersTicked-flags Rc on rate = prescaledTick-flags on rate
+countersTicked-flags Ext on rate = prescaledTick-flags on rate
+
+-- ---- ticks of the settings, with this flag, this output and the flag for the IRQ source
+
+abbrev showing : Bool → Bool → Settings → Settings
+showing flag on s = irqTo on (irqSourceTo Flag (countersTo (flagTo flag (s .counters)) s))
+
+ticked-showing : (flag on : Bool) (s : Settings) → ticked (showing flag on s) ≡ showing (flag || cameBack (w s) (w (ticked s))) on (ticked s)
+unfolding ticked running
+ticked-showing flag on s = by (running s)
+  where
+    next : Counters → Counters
+    next = countersTicked (s .system .source) (s .base .on) (s .base .rate)
+
+    by : (runs : Bool) → cond runs (countersTo (next (flagTo flag (s .counters))) (showing flag on s)) (showing flag on s)
+        ≡ showing (flag || cameBack (w s) (w (cond runs (countersTo (next (s .counters)) s) s))) on (cond runs (countersTo (next (s .counters)) s) s)
+    by true = ap (λ (c : Counters). countersTo c (showing flag on s)) (countersTicked-flags (s .system .source) (s .base .on) (s .base .rate) flag (s .counters))
+    by false = ap (λ (f : Bool). showing f on s) (stands flag (w s))
+
+advanced-showing : (n : ℕ) (flag on : Bool) (s : Settings) → advanced n (showing flag on s) ≡ showing (flag || comesRound n s) on (advanced n s)
+unfolding advanced
+advanced-showing zero flag on s = ap (λ (f : Bool). showing f on s) (sym (or-false flag))
+advanced-showing (suc n) flag on s =
+    let now = cameBack (w s) (w (ticked s)) in
+    ap (advanced n) (ticked-showing flag on s)
+    ∙ advanced-showing n (flag || now) on (ticked s)
+    ∙ ap (λ (f : Bool). showing f on (advanced n (ticked s))) (or-assoc flag now (comesRound n (ticked s)))
+
+-- m ticks and then n are m + n
+comesRound-add : (m n : ℕ) (s : Settings) → comesRound (m + n) s ≡ (comesRound m s || comesRound n (advanced m s))
+unfolding advanced
+comesRound-add zero n s = rw zero-add
+comesRound-add (suc m) n s =
+    let now = cameBack (w s) (w (ticked s)) in
+    ap (λ (k : ℕ). comesRound k s) (suc-add m n)
+    ∙ ap (λ (b : Bool). now || b) (comesRound-add m n (ticked s))
+    ∙ sym (or-assoc now (comesRound m (ticked s)) (comesRound n (advanced m (ticked s))))
+
+-- ---- the law
+
+module _ (s : Settings) (out : TimedOut s) where
+  let-go : effect IrqDis s ≡ showing false false s
+  unfolding effect
+  let-go = ap (λ (source : IrqSource). irqTo false (irqSourceTo source (countersTo (flagTo false (s .counters)) s))) (out .fromFlag)
+
+  again : (m n : ℕ) → irqLow (advanced n (effect IrqEn (advanced m (effect IrqDis s)))) ≡ comesRound (m + n) s
+  unfolding effect irqLow
+  again m n =
+      ap (λ (t : Settings). irqLow (advanced n (effect IrqEn t))) (ap (advanced m) let-go ∙ advanced-showing m false false s)
+      ∙ ap irqLow (advanced-showing n (comesRound m s) true (advanced m s))
+      ∙ sym (comesRound-add m n s)
+
+pub irq-dis-lets-go : IrqDisLetsGo
+unfolding irqLow advanced
+irq-dis-lets-go s out =
+    record {
+      low = simp (out .outputOn, out .fromFlag, out .flagSet);
+      floats = again s out 0 0;
+      again = again s out;
+    }
