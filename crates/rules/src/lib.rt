@@ -195,10 +195,9 @@ fn watchdog_off(settings: Settings) -> Settings
 fn irq_off(settings: Settings) -> Settings
     ensures { λ r. ⌜ r ≡ irqOff settings ⌝ }
 {
-    let mut next = settings;
-    next.irq.on = false;
-    next.counters.timer.watchdog.flag = false;
-    next
+    let mut timer = settings.counters.timer;
+    timer.watchdog.flag = false;
+    irq_to(timer_to(settings, timer), false)
 }
 
 // The settings as a command leaves them.
