@@ -5,7 +5,7 @@ use std::collections::BTreeSet;
 
 // Every code in a command frame of a chip with everything on, and of one with everything off; the ninth bit, which is
 // ignored, is 0 for half of the codes on each. Then what depends on a selection: SYS DIS on the clock, TIMER DIS and
-// WDT DIS on the source; and IRQ DIS and IRQ EN, which depend on nothing.
+// WDT DIS on the source; and IRQ DIS, IRQ EN and CLR WDT, which depend on nothing.
 pub fn codes(script: &mut Script) {
     for (name, state, last) in [("on", ON, 0), ("off", OFF, 1)] {
         script.words(&format!("every code, everything {name}"));
@@ -23,11 +23,12 @@ pub fn codes(script: &mut Script) {
             }
         }
     }
-    script.words("IRQ DIS and IRQ EN for each source, output and flag");
-    for state in 0..12u8 {
-        let (source, output, flag) = (state / 4, state / 2 % 2, state % 2);
-        for code in [0x80, 0x88] {
-            let state = record(&[ON, &[(47, output), (50, source), (51, flag)], COMMAND]);
+    script.words("IRQ DIS, IRQ EN and CLR WDT for each source, output and flag, with all else on, and off");
+    for state in 0..24u8 {
+        let (source, output, flag) = (state / 4 % 3, state / 2 % 2, state % 2);
+        for code in [0x80, 0x88, 0x0E] {
+            let base = [ON, OFF][state as usize / 12];
+            let state = record(&[base, &[(47, output), (50, source), (51, flag)], COMMAND]);
             script.capture(&state, &sent(&format!("{code:08b}0")));
         }
     }
@@ -77,10 +78,10 @@ pub fn rates_and_flag(script: &mut Script) {
         script.advance(&record(&[TIMED, before, &[(51, 1), (55, 255), (56, 2)]]), 60_000);
         script.advance(&record(&[before, &[(51, 1), (40, 1), (41, 0)]]), 60_000);
     }
-    script.words("a time-out that IRQ DIS lets go of, and the next, two ticks later, before and after IRQ EN");
+    script.words("a time-out that IRQ DIS lets go of, just come and two ticks before the next, which comes before or after IRQ EN");
     let [off, on] = ["10000000", "10001000"].map(|code| closed(&format!("100{code}0")));
-    for w in [3, 2] {
-        let low = record(&[TIMED, &[(47, 1), (50, 2), (51, 1), (55, 254), (56, w)]]);
+    for (b, w) in [(0, 0), (254, 3), (254, 2)] {
+        let low = record(&[TIMED, &[(47, 1), (50, 2), (51, 1), (55, b), (56, w)]]);
         for (between, after) in [("", ""), ("", "t"), ("", "tt"), ("t", ""), ("tt", "")] {
             script.capture(&low, &(off.clone() + between + &on + after));
         }

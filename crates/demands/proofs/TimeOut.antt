@@ -3,7 +3,6 @@
 use mathlib.Core.Path.{_≡_, _∙_, refl, sym, ap}
 use mathlib.Core.Bool.{Bool, true, false, cond, not, _&&_, _||_, or-false, or-assoc, or-comm, and-false, not-and-self}
 use Prim.Native.Nat.{ℕ, zero, suc, _+_, _%_}
-use native.Mathlib.Nat.{zero-add, suc-add}
 use native.Mathlib.Omega.{arith}
 use lib.Dec.{eqb}
 use borrow.Author.Tests.{eqb-true, ne-eqb}
@@ -19,8 +18,9 @@ use Rattle.settings.specs.declared.Settings.{Settings}
 use Rattle.settings.specs.Settings.{irqTo, irqSourceTo, countersTo, flagTo}
 use Rattle.rules.specs.Effects.{effect}
 use Rattle.ticks.specs.Ticks.{running, ticked, advanced}
+use Rattle.ticks.proofs.TicksLaws.{advanced-add}
 use Rattle.pins.specs.Pins.{irqLow}
-use Rattle.demands.specs.TimeOut.{TimedOut, w, cameBack, comesRound, LetsGo, IrqDisLetsGo}
+use Rattle.demands.specs.TimeOut.{w, cameBack, comesRound, IrqDisLetsGo}
 
 -- ---- w
 
@@ -122,35 +122,29 @@ advanced-showing (suc n) flag on s =
     ∙ advanced-showing n (flag || now) on (ticked s)
     ∙ ap (λ (f : Bool). showing f on (advanced n (ticked s))) (or-assoc flag now (comesRound n (ticked s)))
 
--- m ticks and then n are m + n
-comesRound-add : (m n : ℕ) (s : Settings) → comesRound (m + n) s ≡ (comesRound m s || comesRound n (advanced m s))
-unfolding advanced
-comesRound-add zero n s = rw zero-add
-comesRound-add (suc m) n s =
-    let now = cameBack (w s) (w (ticked s)) in
-    ap (λ (k : ℕ). comesRound k s) (suc-add m n)
-    ∙ ap (λ (b : Bool). now || b) (comesRound-add m n (ticked s))
-    ∙ sym (or-assoc now (comesRound m (ticked s)) (comesRound n (advanced m (ticked s))))
-
 -- ---- the law
 
-module _ (s : Settings) (out : TimedOut s) where
+module _ (s : Settings) (source : s .irq .source ≡ Flag) where
   let-go : effect IrqDis s ≡ showing false false s
   unfolding effect
-  let-go = ap (λ (source : IrqSource). irqTo false (irqSourceTo source (countersTo (flagTo false (s .counters)) s))) (out .fromFlag)
+  let-go = ap (λ (from : IrqSource). irqTo false (irqSourceTo from (countersTo (flagTo false (s .counters)) s))) source
+
+  after-let-go : (m : ℕ) → advanced m (effect IrqDis s) ≡ showing (comesRound m s) false (advanced m s)
+  after-let-go m = ap (advanced m) let-go ∙ advanced-showing m false false s
 
   again : (m n : ℕ) → irqLow (advanced n (effect IrqEn (advanced m (effect IrqDis s)))) ≡ comesRound (m + n) s
   unfolding effect irqLow
   again m n =
-      ap (λ (t : Settings). irqLow (advanced n (effect IrqEn t))) (ap (advanced m) let-go ∙ advanced-showing m false false s)
-      ∙ ap irqLow (advanced-showing n (comesRound m s) true (advanced m s))
-      ∙ sym (comesRound-add m n s)
+      ap (λ (t : Settings). irqLow (advanced n (effect IrqEn t))) (after-let-go m)
+      ∙ ap (λ (t : Settings). irqLow (advanced n t)) (sym (advanced-showing m false true s))
+      ∙ ap irqLow (sym (advanced-add m n (showing false true s)) ∙ advanced-showing (m + n) false true s)
 
 pub irq-dis-lets-go : IrqDisLetsGo
 unfolding irqLow advanced
-irq-dis-lets-go s out =
+irq-dis-lets-go s source =
     record {
-      low = simp (out .outputOn, out .fromFlag, out .flagSet);
-      floats = again s out 0 0;
-      again = again s out;
+      low = λ flag on. simp (on, source, flag);
+      off = λ m. ap irqLow (after-let-go s source m);
+      floats = again s source 0 0;
+      again = again s source;
     }

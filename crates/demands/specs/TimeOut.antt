@@ -10,13 +10,7 @@ use Rattle.rules.specs.Effects.{effect}
 use Rattle.ticks.specs.Ticks.{ticked, advanced}
 use Rattle.pins.specs.Pins.{irqLow}
 
--- A time-out that shows: the flag is the IRQ source, it is set, and the output is on. All else of the settings is free.
-pub record TimedOut (s : Settings) : Type 0 where
-  pub fromFlag : s .irq .source ≡ Flag
-  pub flagSet : s .counters .timer .watchdog .flag ≡ true
-  pub outputOn : s .irq .on ≡ true
-
--- From one moment to the next w has come back to 0.
+-- w, and whether from one moment to the next it has come back to 0.
 abbrev pub w : Settings → ℕ
 w s = s .counters .timer .watchdog .count
 
@@ -28,13 +22,14 @@ abbrev pub comesRound : ℕ → Settings → Bool
 comesRound zero s = false
 comesRound (suc n) s = cameBack (w s) (w (ticked s)) || comesRound n (ticked s)
 
--- IRQ is low, and floats after IRQ DIS and IRQ EN. With m ticks between the two and n after them it is low again exactly if w comes
--- round with one of these, as it would have done without the commands: w, b and d stand where they stood.
+-- A time-out brings IRQ low. IRQ DIS has it float, however many ticks pass, and IRQ EN leaves it floating. With m ticks between the two
+-- commands and n after them it is low exactly if w comes round with one of these, just when it would have done so without the commands.
 pub record LetsGo (s : Settings) : Type 0 where
-  pub low : irqLow s ≡ true
+  pub low : s .counters .timer .watchdog .flag ≡ true → s .irq .on ≡ true → irqLow s ≡ true
+  pub off : (m : ℕ) → irqLow (advanced m (effect IrqDis s)) ≡ false
   pub floats : irqLow (effect IrqEn (effect IrqDis s)) ≡ false
   pub again : (m n : ℕ) → irqLow (advanced n (effect IrqEn (advanced m (effect IrqDis s)))) ≡ comesRound (m + n) s
 
--- So of any settings, valid or not.
+-- So it is wherever the flag is the IRQ source, whatever flag, output and all else of the settings are.
 abbrev pub IrqDisLetsGo : Type 0
-IrqDisLetsGo = (s : Settings) → TimedOut s → LetsGo s
+IrqDisLetsGo = (s : Settings) → s .irq .source ≡ Flag → LetsGo s
