@@ -1,5 +1,5 @@
--- A time-out that IRQ DIS has let go of: a tick sets the flag exactly where w comes back to 0, whatever flag and output were, and so
--- the ticks after IRQ DIS set it as those of the settings left alone come round. Assumes nothing.
+-- A time-out that IRQ DIS has let go of: a tick sets the flag exactly where w comes back to 0, whatever flag and output were, and
+-- moves w alike. So the flag is set again when w of the settings left alone comes round. Assumes nothing.
 use mathlib.Core.Path.{_≡_, _∙_, refl, sym, ap}
 use mathlib.Core.Bool.{Bool, true, false, cond, not, _&&_, _||_, or-false, or-assoc, or-comm, and-false, not-and-self}
 use Prim.Native.Nat.{ℕ, zero, suc, _+_, _%_}
@@ -9,9 +9,9 @@ use borrow.Author.Tests.{eqb-true, ne-eqb}
 use Rattle.clock.specs.declared.Source.{Source}
 use Rattle.clock.specs.declared.Source.the-variants.{Xtal, Rc, Ext}
 use Rattle.clock.specs.declared.Counters.{Counters}
-use Rattle.commands.specs.declared.Command.the-variants.{IrqDis, IrqEn}
 use Rattle.clock.specs.Sizes.{watchdogSize}
 use Rattle.clock.specs.Ticks.{prescalerStepped, tonerStepped, dividerStepped, baseStepped, watchdogStepped, due, timerStepped, baseTicked, prescaledTick, countersTicked}
+use Rattle.commands.specs.declared.Command.the-variants.{IrqDis, IrqEn}
 use Rattle.settings.specs.declared.IrqSource.{IrqSource}
 use Rattle.settings.specs.declared.IrqSource.the-variants.{Flag}
 use Rattle.settings.specs.declared.Settings.{Settings}
@@ -24,7 +24,7 @@ use Rattle.demands.specs.TimeOut.{w, cameBack, comesRound, IrqDisLetsGo}
 
 -- ---- w
 
--- a step to 0 is a return
+-- a step to 0 comes back
 step-back : (n : ℕ) → cameBack n ((n + 1) % watchdogSize) ≡ eqb ((n + 1) % watchdogSize) 0
 step-back n = by (eqb ((n + 1) % watchdogSize) 0) refl
   where
@@ -34,18 +34,18 @@ step-back n = by (eqb ((n + 1) % watchdogSize) 0) refl
         ap (λ (here : Bool). not here && true) (ne-eqb n 0 (omega (arith, z)))
     by false e = and-false (not (eqb n 0))
 
--- and where w stands there is none, so the flag stands too
+-- where w stands it does not, so the flag stands too
 stands : (flag : Bool) (n : ℕ) → flag ≡ (flag || cameBack n n)
 stands flag n = sym (ap (λ (b : Bool). flag || b) (not-and-self (eqb n 0)) ∙ or-false flag)
 
 -- ---- a tick of the counters
 
-abbrev round : Counters → ℕ
-round c = c .timer .watchdog .count
+abbrev w-count : Counters → ℕ
+w-count c = c .timer .watchdog .count
 
 -- after a tick the flag is set if it was, or if w has come back to 0; nothing else goes by the flag
 abbrev Flags : (Counters → Counters) → Type 0
-Flags tick = (flag : Bool) (c : Counters) → tick (flagTo flag c) ≡ flagTo (flag || cameBack (round c) (round (tick c))) (tick c)
+Flags tick = (flag : Bool) (c : Counters) → tick (flagTo flag c) ≡ flagTo (flag || cameBack (w-count c) (w-count (tick c))) (tick c)
 
 -- a base tick with its tests for parameters: the time base is on, the rate's turn has come, b comes back to 0
 abbrev base-tick : Bool → Bool → Bool → Counters → Counters
@@ -68,10 +68,10 @@ base-tick on turn full c =
 base-flags : (on turn full : Bool) → Flags (base-tick on turn full)
 base-flags true true true flag c =
     ap (λ (f : Bool). flagTo f (base-tick true true true c))
-    (or-comm (eqb ((round c + 1) % watchdogSize) 0) flag ∙ ap (λ (b : Bool). flag || b) (sym (step-back (round c))))
-base-flags true true false flag c = ap (λ (f : Bool). flagTo f (base-tick true true false c)) (stands flag (round c))
-base-flags true false full flag c = ap (λ (f : Bool). flagTo f (base-tick true false full c)) (stands flag (round c))
-base-flags false turn full flag c = ap (λ (f : Bool). flagTo f (base-tick false turn full c)) (stands flag (round c))
+    (or-comm (eqb ((w-count c + 1) % watchdogSize) 0) flag ∙ ap (λ (b : Bool). flag || b) (sym (step-back (w-count c))))
+base-flags true true false flag c = ap (λ (f : Bool). flagTo f (base-tick true true false c)) (stands flag (w-count c))
+base-flags true false full flag c = ap (λ (f : Bool). flagTo f (base-tick true false full c)) (stands flag (w-count c))
+base-flags false turn full flag c = ap (λ (f : Bool). flagTo f (base-tick false turn full c)) (stands flag (w-count c))
 
 baseTicked-flags : (on : Bool) (rate : ℕ) → Flags (baseTicked on rate)
 unfolding baseTicked timerStepped
@@ -86,9 +86,9 @@ prescaledTick-flags on rate flag c = by (eqb (prescalerStepped (c .prescaler) .c
     next = record { prescaler = prescalerStepped (c .prescaler); toner = c .toner; timer = c .timer }
 
     by : (full : Bool) → cond full (baseTicked on rate (flagTo flag next)) (flagTo flag next)
-        ≡ flagTo (flag || cameBack (round c) (round (cond full (baseTicked on rate next) next))) (cond full (baseTicked on rate next) next)
+        ≡ flagTo (flag || cameBack (w-count c) (w-count (cond full (baseTicked on rate next) next))) (cond full (baseTicked on rate next) next)
     by true = baseTicked-flags on rate flag next
-    by false = ap (λ (f : Bool). flagTo f next) (stands flag (round c))
+    by false = ap (λ (f : Bool). flagTo f next) (stands flag (w-count c))
 
 countersTicked-flags : (source : Source) (on : Bool) (rate : ℕ) → Flags (countersTicked source on rate)
 unfolding countersTicked
