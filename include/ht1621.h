@@ -7,8 +7,8 @@
 #ifndef HT1621_H
 #define HT1621_H
 
-#define HT1621_VERSION "2.0.0"
-#define HT1621_VERSION_NUMBER 20000 /* 10,000 x 2 + 100 x 0 + 0, to compare with */
+#define HT1621_VERSION "3.0.0"
+#define HT1621_VERSION_NUMBER 30000 /* 10,000 x 3 + 100 x 0 + 0, to compare with */
 
 /* ---- samples and answers ---- */
 
@@ -86,14 +86,16 @@ enum {
 enum {
     HT1621_SAMPLE_ABOVE = 20,      /* a sample above 15 */
     HT1621_NOTHING_ASKED = 21,     /* no nibble or no command */
-    HT1621_OUT_OF_RANGE = 22,      /* addresses that are not all among the 32, or more than 32 commands */
+    HT1621_FIRST_ABOVE = 22,       /* a first address above 31: addresses are 0 to 31 */
     HT1621_NIBBLE_ABOVE = 23,      /* a nibble above 15, with its place */
     HT1621_UNDEFINED_COMMAND = 24, /* with its place */
     HT1621_OUTPUT_SHORT = 25,      /* an output shorter than needed */
     HT1621_NOTED_COUNT = 26,       /* a number of noted bytes that is none of 4, 8 .. 128 */
     HT1621_NOTED_ABOVE = 27,       /* a noted byte above 1, with its place */
     HT1621_MALFORMED = 28,         /* bytes that are no state record */
-    HT1621_MEMORY_COUNT = 29       /* a power-on memory that is not 32 values */
+    HT1621_MEMORY_COUNT = 29,      /* a power-on memory that is not 32 values */
+    HT1621_RUNS_PAST_END = 30,     /* a first address from 0 to 31, but first + count above 32: the last nibbles would lie past address 31 */
+    HT1621_TOO_MANY_COMMANDS = 31  /* more than 32 commands for one stream: give the others in a second call */
 };
 
 /* Whether what a call returned is a refusal: a test for each call, since a step's answers, the pins and a number of bytes are told

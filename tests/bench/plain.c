@@ -306,8 +306,10 @@ static uint32_t plain_write(size_t first, const uint8_t *nibbles, size_t count, 
 
     if (count == 0)
         return refused(HT1621_NOTHING_ASKED, 0);
-    if (first > 31 || count > 32 - first)
-        return refused(HT1621_OUT_OF_RANGE, 0);
+    if (first > 31)
+        return refused(HT1621_FIRST_ABOVE, 0);
+    if (count > 32 - first)
+        return refused(HT1621_RUNS_PAST_END, 0);
     for (size_t i = 0; i < count; i++)
         if (nibbles[i] > 15)
             return refused(HT1621_NIBBLE_ABOVE, i);
@@ -327,8 +329,10 @@ static uint32_t plain_read(size_t first, size_t count, uint8_t *out, size_t room
 
     if (count == 0)
         return refused(HT1621_NOTHING_ASKED, 0);
-    if (first > 31 || count > 32 - first)
-        return refused(HT1621_OUT_OF_RANGE, 0);
+    if (first > 31)
+        return refused(HT1621_FIRST_ABOVE, 0);
+    if (count > 32 - first)
+        return refused(HT1621_RUNS_PAST_END, 0);
     if (room < 21 + 8 * count)
         return refused(HT1621_OUTPUT_SHORT, 0);
     at = put_bits(put_opening(at, 6), (unsigned)first, 6);
@@ -347,7 +351,7 @@ static uint32_t plain_commands(const uint8_t *codes, size_t count, uint8_t *out,
     if (count == 0)
         return refused(HT1621_NOTHING_ASKED, 0);
     if (count > 32)
-        return refused(HT1621_OUT_OF_RANGE, 0);
+        return refused(HT1621_TOO_MANY_COMMANDS, 0);
     for (size_t i = 0; i < count; i++)
         if (meaning[codes[i]] == NONE)
             return refused(HT1621_UNDEFINED_COMMAND, i);

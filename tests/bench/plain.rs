@@ -312,8 +312,11 @@ pub fn write(first: usize, nibbles: &[u8], out: &mut [u8]) -> u32 {
     if nibbles.is_empty() {
         return refused(21, 0);
     }
-    if first > 31 || nibbles.len() > 32 - first {
+    if first > 31 {
         return refused(22, 0);
+    }
+    if nibbles.len() > 32 - first {
+        return refused(30, 0);
     }
     if let Some(place) = nibbles.iter().position(|&nibble| nibble > 15) {
         return refused(23, place);
@@ -333,8 +336,11 @@ pub fn read(first: usize, count: usize, out: &mut [u8]) -> u32 {
     if count == 0 {
         return refused(21, 0);
     }
-    if first > 31 || count > 32 - first {
+    if first > 31 {
         return refused(22, 0);
+    }
+    if count > 32 - first {
+        return refused(30, 0);
     }
     if out.len() < 21 + 8 * count {
         return refused(25, 0);
@@ -352,7 +358,7 @@ pub fn commands(codes: &[u8], out: &mut [u8]) -> u32 {
         return refused(21, 0);
     }
     if codes.len() > 32 {
-        return refused(22, 0);
+        return refused(31, 0);
     }
     if let Some(place) = codes.iter().position(|&code| !defined(code)) {
         return refused(24, place);

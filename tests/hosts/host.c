@@ -180,10 +180,9 @@ static void streams(void)
     for (size_t first = 0; first <= 33; first++)
         for (size_t count = 0; count <= 33; count++) {
             size_t needed = 21 + 8 * count;
-            int ranged = first <= 31 && first + count <= 32;
             for (size_t room = needed - 2; room <= needed + 2; room++) {
-                uint32_t due = count == 0 ? refused(21, 0) : !ranged ? refused(22, 0)
-                                                       : room < needed ? refused(25, 0) : (uint32_t)needed;
+                uint32_t due = count == 0 ? refused(21, 0) : first > 31 ? refused(22, 0) : first + count > 32 ? refused(30, 0)
+                               : room < needed ? refused(25, 0) : (uint32_t)needed;
                 struct lent w = lend(room), r = lend(room);
                 CHECK(ht1621_write(first, nibbles, count, w.body, room) == due);
                 CHECK(ht1621_read(first, count, r.body, room) == due);
@@ -194,9 +193,13 @@ static void streams(void)
         }
     nibbles[7] = 16, nibbles[9] = 255;
     CHECK(ht1621_write(0, nibbles, 10, out, 0) == refused(23, 7));
-    CHECK(ht1621_write(23, nibbles, 10, out, 0) == refused(22, 0));
+    CHECK(ht1621_write(23, nibbles, 10, out, 0) == refused(30, 0));
+    CHECK(ht1621_write(32, nibbles, 10, out, 0) == refused(22, 0));
     CHECK(ht1621_write((size_t)-1, nibbles, 1, out, sizeof out) == refused(22, 0));
-    CHECK(ht1621_read(1, (size_t)-1, out, sizeof out) == refused(22, 0));
+    CHECK(ht1621_read((size_t)-1, (size_t)-1, out, sizeof out) == refused(22, 0));
+    CHECK(ht1621_read(32, (size_t)-32, out, sizeof out) == refused(22, 0));
+    CHECK(ht1621_read(1, (size_t)-1, out, sizeof out) == refused(30, 0));
+    CHECK(ht1621_read(31, (size_t)-1, out, sizeof out) == refused(30, 0));
 }
 
 static void commands_and_notes(void)
@@ -208,7 +211,7 @@ static void commands_and_notes(void)
         CHECK(intact(o, room < 27 ? 0 : 27));
     }
     CHECK(ht1621_commands(codes, 3, out, 0) == refused(24, 2));
-    CHECK(ht1621_commands(codes, 33, out, 0) == refused(22, 0));
+    CHECK(ht1621_commands(codes, 33, out, 0) == refused(31, 0));
     CHECK(ht1621_commands(codes, 0, out, 0) == refused(21, 0));
     memset(codes, 1, sizeof codes);
     CHECK(ht1621_commands(codes, 32, out, sizeof out) == 9 + 18 * 32);
@@ -241,6 +244,7 @@ static void commands_and_notes(void)
 static void refusals(void)
 {
     uint8_t chip[HT1621_RECORD_BYTES], out[ROOM], values[HT1621_ADDRESSES] = {0}, code = HT1621_SYS_EN;
+    uint8_t codes[33] = {HT1621_SYS_EN};
     uint32_t r = ht1621_power_on(values, sizeof values, chip, sizeof chip);
     CHECK(!HT1621_POWER_ON_REFUSED(r) && r == HT1621_RECORD_BYTES);
     CHECK(!HT1621_STEP_REFUSED(step(chip, sizeof chip, 14)));
@@ -262,7 +266,11 @@ static void refusals(void)
     r = ht1621_write(0, values, 4, out, sizeof out);
     CHECK(HT1621_WRITE_REFUSED(r) && HT1621_REFUSAL(r) == HT1621_NIBBLE_ABOVE && HT1621_PLACE(r) == 3);
     r = ht1621_read(31, 2, out, sizeof out);
-    CHECK(HT1621_READ_REFUSED(r) && HT1621_REFUSAL(r) == HT1621_OUT_OF_RANGE && HT1621_PLACE(r) == 0);
+    CHECK(HT1621_READ_REFUSED(r) && HT1621_REFUSAL(r) == HT1621_RUNS_PAST_END && HT1621_PLACE(r) == 0);
+    r = ht1621_read(32, 1, out, sizeof out);
+    CHECK(HT1621_READ_REFUSED(r) && HT1621_REFUSAL(r) == HT1621_FIRST_ABOVE && HT1621_PLACE(r) == 0);
+    r = ht1621_commands(codes, sizeof codes, out, sizeof out);
+    CHECK(HT1621_COMMANDS_REFUSED(r) && HT1621_REFUSAL(r) == HT1621_TOO_MANY_COMMANDS && HT1621_PLACE(r) == 0);
     r = ht1621_commands(&code, 1, out, sizeof out);
     CHECK(HT1621_COMMANDS_REFUSED(r) && HT1621_REFUSAL(r) == HT1621_UNDEFINED_COMMAND && HT1621_PLACE(r) == 0);
     r = ht1621_decode(values, 4, out, sizeof out);

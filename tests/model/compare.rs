@@ -550,8 +550,8 @@ fn length_cases(tally: &mut Tally) {
     tally.equal(29, write(31, &[1]), &|| {
         "(d) ht1621_write first=31 nibbles=01 out_len=300".to_string()
     });
-    let above = (1 << 31) + 22;
-    tally.equal(above, write(31, &[1; 2]), &|| {
+    let past_end = (1 << 31) + 30;
+    tally.equal(past_end, write(31, &[1; 2]), &|| {
         "(d) ht1621_write first=31 nibbles=0101 out_len=300".to_string()
     });
     let commands = |codes: &[u8]| lent::commands(codes, 300).0;

@@ -104,7 +104,7 @@ pub fn streams(script: &mut Script) {
 pub fn refused_streams(script: &mut Script) {
     const MOST: u64 = u64::MAX;
     let nibbles = some_nibbles();
-    script.words("21 and 22");
+    script.words("21, 22 and 30");
     for (first, count) in [
         (0, 0), (31, 0), (32, 0), (MOST, 0), (0, 33), (1, 32), (31, 2), (32, 1), (33, 1), (63, 1), (64, 1), (255, 1), (256, 1),
         (1 << 32, 1), (MOST, 1), (MOST, 2), (MOST, 33), (MOST - 30, 32), (MOST - 31, 32),
@@ -118,7 +118,7 @@ pub fn refused_streams(script: &mut Script) {
         script.read(first, count, 64);
         script.read(first, count, 0);
     }
-    script.words("23 and its place, after 21 and 22 and before 25");
+    script.words("23 and its place, after 21, 22 and 30 and before 25");
     for (first, list) in [
         (0, vec![16]), (3, vec![255]), (3, vec![1, 16]), (3, vec![1, 2, 16, 16]), (0, [vec![15; 31], vec![16]].concat()),
         (31, vec![1, 16]), (32, vec![16]), (0, vec![16; 33]), (4, vec![15, 0, 128, 17]),

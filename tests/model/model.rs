@@ -850,13 +850,16 @@ fn within(room: usize, bytes: Vec<u8>) -> Result<Vec<u8>, Refusal> {
     }
 }
 
-// The refusals 21 and 22 of a write or a read.
+// The refusals 21, 22 and 30 of a write or a read.
 fn span(first: u64, count: u64) -> Result<(), Refusal> {
     if count == 0 {
         return Err((21, 0));
     }
-    if first > 31 || first as u128 + count as u128 > 32 {
+    if first > 31 {
         return Err((22, 0));
+    }
+    if first as u128 + count as u128 > 32 {
+        return Err((30, 0));
     }
     Ok(())
 }
@@ -882,7 +885,7 @@ pub fn commands(codes: &[u8], room: usize) -> Result<Vec<u8>, Refusal> {
         return Err((21, 0));
     }
     if codes.len() > 32 {
-        return Err((22, 0));
+        return Err((31, 0));
     }
     if let Some(place) = codes.iter().position(|&code| !defined(code)) {
         return Err((24, place as u64));

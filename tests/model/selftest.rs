@@ -86,9 +86,9 @@ fn stream_cases(tally: &mut Tally) {
     tally.same("(c) N=1", 29, write(0, &[7], 1000).map_or(0, |s| s.len()));
     tally.same("(c) N=32", 277, write(0, &[7; 32], 1000).map_or(0, |s| s.len()));
     tally.same("(d) 31, 1", 29, write(31, &[7], 1000).map_or(0, |s| s.len()));
-    tally.same("(d) 31, 2", Err((22, 0)), write(31, &[7, 7], 1000));
+    tally.same("(d) 31, 2", Err((30, 0)), write(31, &[7, 7], 1000));
     tally.same("(d) read 31, 1", 29, read(31, 1, 1000).map_or(0, |s| s.len()));
-    tally.same("(d) read 31, 2", Err((22, 0)), read(31, 2, 1000));
+    tally.same("(d) read 31, 2", Err((30, 0)), read(31, 2, 1000));
     tally.same("(e) K=1", 27, commands(&[1], 1000).map_or(0, |s| s.len()));
     for count in 1..=32 {
         let needed = 21 + 8 * count;
@@ -122,13 +122,16 @@ fn stream_cases(tally: &mut Tally) {
 fn refusal_cases(tally: &mut Tally) {
     tally.same("21 before 22", Err((21, 0)), write(99, &[], 0));
     tally.same("22 before 23", Err((22, 0)), write(32, &[16], 0));
+    tally.same("22 before 30", Err((22, 0)), write(32, &[16; 33], 0));
+    tally.same("30 before 23", Err((30, 0)), write(0, &[16; 33], 0));
     tally.same("23 before 25", Err((23, 1)), write(0, &[15, 16, 17], 0));
     tally.same("25", Err((25, 0)), write(0, &[15], 28));
     tally.same("read 21", Err((21, 0)), read(u64::MAX, 0, 0));
     tally.same("read 22", Err((22, 0)), read(u64::MAX, 1, 0));
-    tally.same("read 22, huge count", Err((22, 0)), read(1, u64::MAX, 0));
+    tally.same("read 22, huge both", Err((22, 0)), read(u64::MAX, u64::MAX, 0));
+    tally.same("read 30, huge count", Err((30, 0)), read(1, u64::MAX, 0));
     tally.same("commands 21", Err((21, 0)), commands(&[], 0));
-    tally.same("commands 22", Err((22, 0)), commands(&[0x2C; 33], 0));
+    tally.same("commands 31", Err((31, 0)), commands(&[0x2C; 33], 0));
     tally.same("commands 24", Err((24, 2)), commands(&[0, 1, 0x2C, 0x2C], 0));
     tally.same("decode 26, none", Err((26, 0)), decode(&[], 0));
     tally.same("decode 26, three", Err((26, 0)), decode(&[2, 2, 2], 0));

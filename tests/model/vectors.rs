@@ -67,7 +67,7 @@ fn required() -> Vec<String> {
         all.push(format!("phase {phase} offers level {level}"));
     }
     let refusals: [(&str, &[u8]); 6] =
-        [("w", &[21, 22, 23, 25]), ("r", &[21, 22, 25]), ("c", &[21, 22, 24, 25]), ("d", &[25, 26, 27]), ("o", &[23, 25, 29]), ("p", &[25, 28])];
+        [("w", &[21, 22, 23, 25, 30]), ("r", &[21, 22, 25, 30]), ("c", &[21, 24, 25, 31]), ("d", &[25, 26, 27]), ("o", &[23, 25, 29]), ("p", &[25, 28])];
     for (letter, numbers) in refusals {
         all.push(format!("{letter} accepted"));
         all.extend(numbers.iter().map(|number| format!("{letter} refused {number}")));

@@ -8,7 +8,7 @@ use Rattle.ground.specs.declared.Outcome.the-variants.{Written, Refused}
 use Rattle.ground.specs.Outcomes.{Rung, ladder, Row, AsTabled}
 use Rattle.ground.specs.Refusals.{refusalNumber, refusalPlace}
 use Rattle.ground.proofs.OutcomesLaws.{rowOf, ladder-tabled}
-use Rattle.driver.specs.Refusals.{outsideMemory, tooMany, miscounted}
+use Rattle.driver.specs.Refusals.{miscounted}
 use Rattle.driver.specs.Refusals.{writeRefusals, readRefusals, commandRefusals, decodeRefusals}
 use Rattle.driver.specs.Refusals.{writeAnswer, readAnswer, commandAnswer, decodeAnswer}
 use Rattle.streams.specs.Streams.{writeStream, readStream, commandStream, decoded}
@@ -44,17 +44,14 @@ tabled {rungs} {size} {table} {bytes} rows same =
 
 write : (first : ℕ) (nibbles : List ℕ) (room : ℕ)
     → Tabled (writeRefusals first nibbles room) (length (writeStream first nibbles)) (writeTable first nibbles room) (21 + 8 * length nibbles)
-unfolding outsideMemory
 write first nibbles room = tabled (rw (write-length first nibbles) refl) (write-length first nibbles)
 
 read : (first count room : ℕ)
     → Tabled (readRefusals first count room) (length (readStream first count)) (readTable first count room) (21 + 8 * count)
-unfolding outsideMemory
 read first count room = tabled (rw (read-length first count) refl) (read-length first count)
 
 commands : (codes : List ℕ) (room : ℕ)
     → Tabled (commandRefusals codes room) (length (commandStream codes)) (commandTable codes room) (9 + 18 * length codes)
-unfolding tooMany
 commands codes room = tabled (rw (commands-length codes) refl) (commands-length codes)
 
 decode : (noted : List ℕ) (room : ℕ)

@@ -19,9 +19,8 @@ use Rattle.port.specs.Valid.{Nibbles}
 use Rattle.port.proofs.ValidLaws.{nibbles-from}
 use Rattle.ground.specs.declared.Outcome.the-variants.{Written}
 use Rattle.ground.specs.Outcomes.{left}
-use Rattle.driver.specs.Refusals.{outsideMemory, nibbleFault, commandFault, writeAnswer}
+use Rattle.driver.specs.Refusals.{nibbleFault, commandFault, writeAnswer}
 use Rattle.streams.specs.Streams.{writeStream, readStream, commandStream}
-use Rattle.driver.proofs.RefusalsLaws.{inside}
 use Rattle.streams.proofs.StreamsLaws.{write-length}
 use Rattle.demands.specs.Accepted.{AcceptsWrite, AcceptsRead, AcceptsCommands}
 use Rattle.demands.proofs.Accepted.{accepted}
@@ -52,13 +51,12 @@ pub record Fit (first : ℕ) (ns : List ℕ) : Type 0 where
   pub nibbles : Nibbles ns
 
 pub accepted-write : (first : ℕ) (ns : List ℕ) → AcceptsWrite first ns → Fit first ns
-unfolding outsideMemory
 accepted-write first ns e =
     let none = accepted .write first ns (length (writeStream first ns)) .acceptedOnly _ e in
     record {
       some = omega (arith, eqb-false (length ns) 0 (none .0));
-      inside = inside first (length ns) (none .1 .0) .1;
-      nibbles = nibbles-from ns (none-above 15 ns (ltb-false (lowest nibbleFault ns) (length ns) (none .1 .1 .0)));
+      inside = ltb-false addresses (first + length ns) (none .1 .1 .0);
+      nibbles = nibbles-from ns (none-above 15 ns (ltb-false (lowest nibbleFault ns) (length ns) (none .1 .1 .1 .0)));
     }
 
 -- a success reports the stream's length, and there was room for it
@@ -68,7 +66,7 @@ written-fits first ns room count e =
     let none = accepted .write first ns room .acceptedOnly count e in
     let size : Written (21 + 8 * length ns) ≡ Written count = sym (accepted .write first ns room .accepted none) ∙ e in
     let long = write-length first ns in
-    (counted size ∙ sym long, omega (arith, long, ltb-false room (21 + 8 * length ns) (none .1 .1 .1 .0)))
+    (counted size ∙ sym long, omega (arith, long, ltb-false room (21 + 8 * length ns) (none .1 .1 .1 .1 .0)))
   where
     counted : {n m : ℕ} → Written n ≡ Written m → m ≡ n
     counted same = cc
@@ -79,15 +77,14 @@ accepted-enough first ns room count e =
     let none = accepted .write first ns room .acceptedOnly count e in
     let long = write-length first ns in
     let just : ltb (length (writeStream first ns)) (21 + 8 * length ns) ≡ false = le-ltb (length (writeStream first ns)) (21 + 8 * length ns) (omega (arith, long)) in
-    accepted .write first ns (length (writeStream first ns)) .accepted (none .0, (none .1 .0, (none .1 .1 .0, (just, tt)))) ∙ ap Written (sym long)
+    accepted .write first ns (length (writeStream first ns)) .accepted (none .0, (none .1 .0, (none .1 .1 .0, (none .1 .1 .1 .0, (just, tt))))) ∙ ap Written (sym long)
 
 -- ---- a read
 
 pub accepted-read : (first count : ℕ) → AcceptsRead first count → (0 < count) × (first + count ≤ addresses)
-unfolding outsideMemory
 accepted-read first count e =
     let none = accepted .read first count (length (readStream first count)) .acceptedOnly _ e in
-    (omega (arith, eqb-false count 0 (none .0)), inside first count (none .1 .0) .1)
+    (omega (arith, eqb-false count 0 (none .0)), ltb-false addresses (first + count) (none .1 .1 .0))
 
 -- ---- commands
 

@@ -22,7 +22,8 @@ use Rattle.host.specs.Host.{powerOnAnswer, powerOnReturns, writeReturns, readRe
 abbrev pub writeTable : ℕ → List ℕ → ℕ → List Row
 writeTable first nibbles room =
     row (eqb (length nibbles) 0) 21 0
-    ∷ row (ltb 31 first || ltb 32 (first + length nibbles)) 22 0
+    ∷ row (ltb 31 first) 22 0
+    ∷ row (ltb 32 (first + length nibbles)) 30 0
     ∷ row (somewhere (ltb 15) nibbles) 23 (lowest (ltb 15) nibbles)
     ∷ row (ltb room (21 + 8 * length nibbles)) 25 0 ∷ []
 
@@ -30,14 +31,15 @@ writeTable first nibbles room =
 abbrev pub readTable : ℕ → ℕ → ℕ → List Row
 readTable first count room =
     row (eqb count 0) 21 0
-    ∷ row (ltb 31 first || ltb 32 (first + count)) 22 0
+    ∷ row (ltb 31 first) 22 0
+    ∷ row (ltb 32 (first + count)) 30 0
     ∷ row (ltb room (21 + 8 * count)) 25 0 ∷ []
 
 -- Giving commands.
 abbrev pub commandTable : List ℕ → ℕ → List Row
 commandTable codes room =
     row (eqb (length codes) 0) 21 0
-    ∷ row (ltb 32 (length codes)) 22 0
+    ∷ row (ltb 32 (length codes)) 31 0
     ∷ row (somewhere commandFault codes) 24 (lowest commandFault codes)
     ∷ row (ltb room (9 + 18 * length codes)) 25 0 ∷ []
 

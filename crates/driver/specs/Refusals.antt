@@ -4,7 +4,7 @@ use mathlib.Core.Bool.{Bool, not, _||_}
 use mathlib.Core.List.{List, [], _∷_}
 use lib.Dec.{eqb, ltb}
 use lib.ListN.{length}
-use Rattle.ground.specs.declared.Refusal.the-variants.{NothingAsked, OutOfRange, NibbleAbove, UndefinedCommand}
+use Rattle.ground.specs.declared.Refusal.the-variants.{NothingAsked, FirstAbove, RunsPastEnd, TooManyCommands, NibbleAbove, UndefinedCommand}
 use Rattle.ground.specs.declared.Refusal.the-variants.{NotedCount, NotedAbove}
 use Rattle.ground.specs.declared.Outcome.{Outcome}
 use Rattle.ground.specs.Outcomes.{Rung, refusedIf, answered}
@@ -31,12 +31,16 @@ mostNotes = addresses * nibbleNotes
 abbrev pub nothing : ℕ → Bool
 nothing count = eqb count 0
 
--- The addresses from `first` on are not all in the memory: there is no such first one, or too few after it.
-unfoldable pub outsideMemory : ℕ → ℕ → Bool
-outsideMemory first count = ltb lastAddress first || ltb addresses (first + count)
+-- There is no such first address.
+abbrev pub firstAbove : ℕ → Bool
+firstAbove first = ltb lastAddress first
+
+-- As many addresses from `first` on run past the end of the memory.
+abbrev pub runsPastEnd : ℕ → ℕ → Bool
+runsPastEnd first count = ltb addresses (first + count)
 
 -- More commands than one stream takes.
-unfoldable pub tooMany : ℕ → Bool
+abbrev pub tooMany : ℕ → Bool
 tooMany count = ltb mostCommands count
 
 -- A nibble has four bits, a noted byte one.
@@ -54,7 +58,8 @@ miscounted count = eqb count 0 || ltb mostNotes count || not (eqb (count % nibbl
 abbrev pub writeRefusals : ℕ → List ℕ → ℕ → List Rung
 writeRefusals first nibbles room =
     refusedIf (nothing (length nibbles)) NothingAsked
-    ∷ refusedIf (outsideMemory first (length nibbles)) OutOfRange
+    ∷ refusedIf (firstAbove first) FirstAbove
+    ∷ refusedIf (runsPastEnd first (length nibbles)) RunsPastEnd
     ∷ refusedIf (somewhere nibbleFault nibbles) (NibbleAbove (lowest nibbleFault nibbles))
     ∷ noRoom (writeStream first nibbles) room ∷ []
 
@@ -65,7 +70,8 @@ writeAnswer first nibbles room = answered (writeRefusals first nibbles room) (wr
 abbrev pub readRefusals : ℕ → ℕ → ℕ → List Rung
 readRefusals first count room =
     refusedIf (nothing count) NothingAsked
-    ∷ refusedIf (outsideMemory first count) OutOfRange
+    ∷ refusedIf (firstAbove first) FirstAbove
+    ∷ refusedIf (runsPastEnd first count) RunsPastEnd
     ∷ noRoom (readStream first count) room ∷ []
 
 unfoldable pub readAnswer : ℕ → ℕ → ℕ → Outcome
@@ -75,7 +81,7 @@ readAnswer first count room = answered (readRefusals first count room) (readStre
 abbrev pub commandRefusals : List ℕ → ℕ → List Rung
 commandRefusals codes room =
     refusedIf (nothing (length codes)) NothingAsked
-    ∷ refusedIf (tooMany (length codes)) OutOfRange
+    ∷ refusedIf (tooMany (length codes)) TooManyCommands
     ∷ refusedIf (somewhere commandFault codes) (UndefinedCommand (lowest commandFault codes))
     ∷ noRoom (commandStream codes) room ∷ []
 

@@ -15,7 +15,8 @@ const MOST_COMMANDS: usize = 32;
 const MOST_NOTES: usize = ground::ADDRESSES * streams::NIBBLE_NOTES;
 
 // The stream that writes nibbles from the address `first` on: 21 bytes, and 8 for each nibble. Refused, in this order:
-// no nibble; addresses outside the 32; a nibble above 15, with its place; a buffer too short.
+// no nibble; a first address above 31; nibbles past the last address; a nibble above 15, with its place; a buffer too
+// short.
 pub fn write(first: usize, nibbles: &[u8], out: &mut [u8]) -> Outcome
     ensures { λ r. ⌜ ComesTo
         (writeAnswer first (now (nibbles .entry)) (length (now (out .entry))))
@@ -26,10 +27,10 @@ pub fn write(first: usize, nibbles: &[u8], out: &mut [u8]) -> Outcome
         return Outcome::Refused(Refusal::NothingAsked);
     }
     if ground::ADDRESSES <= first {
-        return Outcome::Refused(Refusal::OutOfRange);
+        return Outcome::Refused(Refusal::FirstAbove);
     }
     if ground::ADDRESSES - first < nibbles.len() {
-        return Outcome::Refused(Refusal::OutOfRange);
+        return Outcome::Refused(Refusal::RunsPastEnd);
     }
     let place = ground::first_above(nibbles, 15);
     if place < nibbles.len() {
@@ -39,7 +40,7 @@ pub fn write(first: usize, nibbles: &[u8], out: &mut [u8]) -> Outcome
 }
 
 // The stream that reads `count` nibbles from the address `first` on: 21 bytes, and 8 for each nibble. Refused, in this
-// order: no nibble; addresses outside the 32; a buffer too short.
+// order: no nibble; a first address above 31; nibbles past the last address; a buffer too short.
 pub fn read(first: usize, count: usize, out: &mut [u8]) -> Outcome
     ensures { λ r. ⌜ ComesTo
         (readAnswer first count (length (now (out .entry))))
@@ -50,10 +51,10 @@ pub fn read(first: usize, count: usize, out: &mut [u8]) -> Outcome
         return Outcome::Refused(Refusal::NothingAsked);
     }
     if ground::ADDRESSES <= first {
-        return Outcome::Refused(Refusal::OutOfRange);
+        return Outcome::Refused(Refusal::FirstAbove);
     }
     if ground::ADDRESSES - first < count {
-        return Outcome::Refused(Refusal::OutOfRange);
+        return Outcome::Refused(Refusal::RunsPastEnd);
     }
     streams::read(first as u8, count, out)
 }
@@ -70,7 +71,7 @@ pub fn commands(codes: &[u8], out: &mut [u8]) -> Outcome
         return Outcome::Refused(Refusal::NothingAsked);
     }
     if MOST_COMMANDS < codes.len() {
-        return Outcome::Refused(Refusal::OutOfRange);
+        return Outcome::Refused(Refusal::TooManyCommands);
     }
     let place = commands::first_undefined(codes);
     if place < codes.len() {

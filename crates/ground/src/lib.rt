@@ -18,8 +18,8 @@ pub enum Refusal {
     SampleAbove,
     // 21: no nibble or no command asked
     NothingAsked,
-    // 22: a first address above 31, more addresses than there are after it, or more than 32 commands
-    OutOfRange,
+    // 22: a first address above 31
+    FirstAbove,
     // 23: a nibble above 15
     NibbleAbove(usize),
     // 24: an undefined command
@@ -34,6 +34,10 @@ pub enum Refusal {
     Malformed,
     // 29: a power-on memory that is not 32 values
     MemoryCount,
+    // 30: a first address from 0 to 31, and more addresses asked than there are from it on
+    RunsPastEnd,
+    // 31: more than 32 commands
+    TooManyCommands,
 }
 
 impl Refusal {
@@ -44,7 +48,7 @@ impl Refusal {
         match self {
             Refusal::SampleAbove => 20,
             Refusal::NothingAsked => 21,
-            Refusal::OutOfRange => 22,
+            Refusal::FirstAbove => 22,
             Refusal::NibbleAbove(_) => 23,
             Refusal::UndefinedCommand(_) => 24,
             Refusal::OutputShort => 25,
@@ -52,6 +56,8 @@ impl Refusal {
             Refusal::NotedAbove(_) => 27,
             Refusal::Malformed => 28,
             Refusal::MemoryCount => 29,
+            Refusal::RunsPastEnd => 30,
+            Refusal::TooManyCommands => 31,
         }
     }
 
@@ -62,7 +68,7 @@ impl Refusal {
         match self {
             Refusal::SampleAbove => 0,
             Refusal::NothingAsked => 0,
-            Refusal::OutOfRange => 0,
+            Refusal::FirstAbove => 0,
             Refusal::NibbleAbove(place) => place,
             Refusal::UndefinedCommand(place) => place,
             Refusal::OutputShort => 0,
@@ -70,6 +76,8 @@ impl Refusal {
             Refusal::NotedAbove(place) => place,
             Refusal::Malformed => 0,
             Refusal::MemoryCount => 0,
+            Refusal::RunsPastEnd => 0,
+            Refusal::TooManyCommands => 0,
         }
     }
 }

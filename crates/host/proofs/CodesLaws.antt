@@ -2,31 +2,31 @@
 use mathlib.Core.Path.{_≡_, refl}
 use mathlib.Core.Bool.{Bool, true, false, not, _||_, true≢false}
 use mathlib.Core.List.{List, [], _∷_}
-use Prim.Native.Nat.{ℕ, suc, _-_, _/_, _%_, _≤_, _<_}
+use Prim.Native.Nat.{ℕ, suc, _+_, _-_, _/_, _%_, _≤_, _<_}
 use native.Mathlib.Omega.{arith}
 use lib.Dec.{eqb, ltb}
 use lib.ListN.{length}
 use borrow.Author.Tests.{lt-ltb, le-ltb, ltb-false}
 use Rattle.ground.proofs.ChoiceLaws.{either, by-cases}
 use Rattle.ground.specs.declared.Refusal.{Refusal}
-use Rattle.ground.specs.declared.Refusal.the-variants.{SampleAbove, NothingAsked, OutOfRange, NibbleAbove, UndefinedCommand}
-use Rattle.ground.specs.declared.Refusal.the-variants.{OutputShort, NotedCount, NotedAbove, Malformed, MemoryCount}
+use Rattle.ground.specs.declared.Refusal.the-variants.{SampleAbove, NothingAsked, FirstAbove, NibbleAbove, UndefinedCommand}
+use Rattle.ground.specs.declared.Refusal.the-variants.{OutputShort, NotedCount, NotedAbove, Malformed, MemoryCount, RunsPastEnd, TooManyCommands}
 use Rattle.ground.specs.Places.{lowest}
 use Rattle.ground.specs.Refusals.{refusalNumber, refusalPlace}
 use Rattle.ground.specs.declared.Outcome.{Outcome}
 use Rattle.ground.specs.declared.Outcome.the-variants.{Written, Refused}
 use Rattle.ground.specs.Outcomes.{succeeded, Rung, ladder}
-use Rattle.driver.specs.Refusals.{tooMany, miscounted, nibbleFault, notedFault, commandFault}
+use Rattle.driver.specs.Refusals.{miscounted, nibbleFault, notedFault, commandFault}
 use Rattle.driver.specs.Refusals.{writeRefusals, readRefusals, commandRefusals, decodeRefusals, writeAnswer, readAnswer, commandAnswer, decodeAnswer}
 use Rattle.streams.specs.Streams.{writeStream, readStream, commandStream, decoded}
-use Rattle.driver.proofs.RefusalsLaws.{inside}
 use Rattle.streams.proofs.StreamsLaws.{write-length, read-length, commands-length, decoded-length}
 use Rattle.host.specs.Host.{refusedCode, hostCode}
 
-number-small : (why : Refusal) → refusalNumber why ≤ 29
+-- a byte holds the number of every refusal
+number-small : (why : Refusal) → refusalNumber why ≤ 255
 number-small SampleAbove = omega arith
 number-small NothingAsked = omega arith
-number-small OutOfRange = omega arith
+number-small FirstAbove = omega arith
 number-small (NibbleAbove place) = omega arith
 number-small (UndefinedCommand place) = omega arith
 number-small OutputShort = omega arith
@@ -34,6 +34,8 @@ number-small NotedCount = omega arith
 number-small (NotedAbove place) = omega arith
 number-small Malformed = omega arith
 number-small MemoryCount = omega arith
+number-small RunsPastEnd = omega arith
+number-small TooManyCommands = omega arith
 
 -- A success counts few bytes, a refusal has a low place.
 abbrev pub Small : Outcome → Type 0
@@ -98,11 +100,14 @@ write-small first nibbles room =
       omega arith,
       λ some. (
         omega arith,
-        λ e.
-            let few = inside first (length nibbles) e .1 in (
-              omega (arith, few, place-within nibbleFault nibbles),
-              λ clean. (omega arith, λ fits. omega (arith, few, write-length first nibbles)),
-            ),
+        λ good. (
+          omega arith,
+          λ e.
+              let few = ltb-false 32 (first + length nibbles) e in (
+                omega (arith, few, place-within nibbleFault nibbles),
+                λ clean. (omega arith, λ fits. omega (arith, few, write-length first nibbles)),
+              ),
+        ),
       ),
     )
 
@@ -113,13 +118,15 @@ read-small first count room =
       omega arith,
       λ some. (
         omega arith,
-        λ e.
-            (omega arith, λ fits. omega (arith, inside first count e .1, read-length first count)),
+        λ good. (
+          omega arith,
+          λ e. (omega arith, λ fits. omega (arith, ltb-false 32 (first + count) e, read-length first count)),
+        ),
       ),
     )
 
 pub commands-small : (codes : List ℕ) (room : ℕ) → Small (commandAnswer codes room)
-unfolding commandAnswer tooMany
+unfolding commandAnswer
 commands-small codes room =
     ladder-small (commandRefusals codes room) (length (commandStream codes)) (
       omega arith,

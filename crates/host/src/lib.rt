@@ -55,7 +55,7 @@ pub extern "C" fn ht1621_power_on(memory: &[u8], bytes: &mut [u8]) -> u32
 }
 
 // The stream that writes nibbles from the address `first` on. Refused as `driver::write` is:
-// 21, 22, 23 with its place, 25.
+// 21, 22, 30, 23 with its place, 25.
 #[no_mangle]
 pub extern "C" fn ht1621_write(first: usize, nibbles: &[u8], out: &mut [u8]) -> u32
     ensures { λ r. ⌜ (r ≡ writeReturns first (now (nibbles .entry)) (now (out .entry)))
@@ -66,7 +66,7 @@ pub extern "C" fn ht1621_write(first: usize, nibbles: &[u8], out: &mut [u8]) -> 
 }
 
 // The stream that reads `count` nibbles from the address `first` on. Refused as `driver::read` is:
-// 21, 22, 25.
+// 21, 22, 30, 25.
 #[no_mangle]
 pub extern "C" fn ht1621_read(first: usize, count: usize, out: &mut [u8]) -> u32
     ensures { λ r. ⌜ (r ≡ readReturns first count (now (out .entry)))
@@ -77,7 +77,7 @@ pub extern "C" fn ht1621_read(first: usize, count: usize, out: &mut [u8]) -> u32
 }
 
 // The stream that gives commands, each by the byte of its upper eight bits. Refused as `driver::commands` is:
-// 21, 22, 24 with its place, 25.
+// 21, 31, 24 with its place, 25.
 #[no_mangle]
 pub extern "C" fn ht1621_commands(codes: &[u8], out: &mut [u8]) -> u32
     ensures { λ r. ⌜ (r ≡ commandsReturns (now (codes .entry)) (now (out .entry)))

@@ -75,14 +75,14 @@ unfolding writeReturns writeBytes writeAnswer
 write-leaves first nibbles out =
     let stream = writeStream first nibbles in
     ladder-leaves stream stream out (writeRefusals first nibbles (length out)) (length stream)
-    (λ some inside clean. fits-leaves stream out) (write-small first nibbles (length out))
+    (λ some good inside clean. fits-leaves stream out) (write-small first nibbles (length out))
 
 pub read-leaves : (first count : ℕ) (out : List ℕ) → BufferLeft (readStream first count) out (readReturns first count out) (readBytes first count out)
 unfolding readReturns readBytes readAnswer
 read-leaves first count out =
     let stream = readStream first count in
     ladder-leaves stream stream out (readRefusals first count (length out)) (length stream)
-    (λ some inside. fits-leaves stream out) (read-small first count (length out))
+    (λ some good inside. fits-leaves stream out) (read-small first count (length out))
 
 pub commands-leave : (codes out : List ℕ) → BufferLeft (commandStream codes) out (commandsReturns codes out) (commandsBytes codes out)
 unfolding commandsReturns commandsBytes commandAnswer

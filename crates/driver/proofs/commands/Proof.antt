@@ -6,7 +6,7 @@ use borrow.Author.Tests.{lt-ltb, le-ltb, eq-eqb, ne-eqb}
 use lib.ListN.{length}
 use Rattle.ground.proofs.OutcomesLaws.{refuses}
 use Rattle.streams.proofs.SentLaws.{sends-due}
-use Rattle.driver.specs.Refusals.{mostCommands, tooMany, commandAnswer}
+use Rattle.driver.specs.Refusals.{mostCommands, commandAnswer}
 use Rattle.driver.proofs.commands.Statement.{statement}
 use Rattle.driver.proofs.commands.Tie as tie
 
@@ -15,7 +15,7 @@ unfolding commandAnswer
 returns c = refuses (simp (eq-eqb (length (c .before .before .before .args .codes .now)) 0 (omega arith)))
 
 returns-2 : tie.Need-returns-2
-unfolding commandAnswer tooMany
+unfolding commandAnswer
 returns-2 c =
     let count = length (c .before .before .before .before .args .codes .now) in
     refuses (simp (ne-eqb _ 0 (c .before .if1 .left), lt-ltb mostCommands count (omega arith)))
@@ -24,7 +24,7 @@ first-undefined-requires : tie.Need-first-undefined-requires
 first-undefined-requires c κs = search needs
 
 returns-3 : tie.Need-returns-3
-unfolding commandAnswer tooMany
+unfolding commandAnswer
 returns-3 c =
     let some = c .before .before .before in
     refuses
@@ -42,7 +42,7 @@ same-length : tie.Need-same-length
 same-length c = search needs
 
 returns-4 : tie.Need-returns-4
-unfolding commandAnswer tooMany
+unfolding commandAnswer
 returns-4 c =
     let called = c .before .before in
     let clean = called .before .before in

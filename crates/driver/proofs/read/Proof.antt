@@ -6,7 +6,7 @@ use borrow.Author.Tests.{lt-ltb, le-ltb, eq-eqb, ne-eqb}
 use Rattle.ground.specs.Sizes.{addresses}
 use Rattle.ground.proofs.OutcomesLaws.{refuses}
 use Rattle.streams.proofs.SentLaws.{sends-due}
-use Rattle.driver.specs.Refusals.{lastAddress, outsideMemory, readAnswer}
+use Rattle.driver.specs.Refusals.{lastAddress, readAnswer}
 use Rattle.driver.proofs.read.Statement.{statement}
 use Rattle.driver.proofs.read.Tie as tie
 
@@ -15,7 +15,7 @@ unfolding readAnswer
 returns c = refuses (simp (eq-eqb (c .before .before .args .count) 0 (omega arith)))
 
 returns-2 : tie.Need-returns-2
-unfolding readAnswer outsideMemory
+unfolding readAnswer
 returns-2 c =
     let first = c .before .before .before .args .first in
     refuses (simp (ne-eqb _ 0 (c .before .if1 .left), lt-ltb lastAddress first (omega arith)))
@@ -24,7 +24,7 @@ sub-if3 : tie.Need-sub-if3
 sub-if3 c = search needs
 
 returns-3 : tie.Need-returns-3
-unfolding readAnswer outsideMemory
+unfolding readAnswer
 returns-3 c =
     let start = c .before .before .before .before in
     let first = start .args .first in
@@ -45,7 +45,7 @@ same-length : tie.Need-same-length
 same-length c = search needs
 
 returns-4 : tie.Need-returns-4
-unfolding readAnswer outsideMemory
+unfolding readAnswer
 returns-4 c =
     let called = c .before .before in
     let some = called .before .before .before .before in

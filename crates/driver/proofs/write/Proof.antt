@@ -8,7 +8,7 @@ use lib.ListN.{length}
 use Rattle.ground.specs.Sizes.{addresses}
 use Rattle.ground.proofs.OutcomesLaws.{refuses}
 use Rattle.streams.proofs.SentLaws.{sends-due}
-use Rattle.driver.specs.Refusals.{lastAddress, outsideMemory, writeAnswer}
+use Rattle.driver.specs.Refusals.{lastAddress, writeAnswer}
 use Rattle.driver.proofs.write.Statement.{statement}
 use Rattle.driver.proofs.write.Tie as tie
 
@@ -17,7 +17,7 @@ unfolding writeAnswer
 returns c = refuses (simp (eq-eqb (length (c .before .before .before .args .nibbles .now)) 0 (omega arith)))
 
 returns-2 : tie.Need-returns-2
-unfolding writeAnswer outsideMemory
+unfolding writeAnswer
 returns-2 c =
     let start = c .before .before .before .before in
     refuses (simp (ne-eqb _ 0 (c .before .if1 .left), lt-ltb lastAddress (start .args .first) (omega arith)))
@@ -26,7 +26,7 @@ sub-if3 : tie.Need-sub-if3
 sub-if3 c = search needs
 
 returns-3 : tie.Need-returns-3
-unfolding writeAnswer outsideMemory
+unfolding writeAnswer
 returns-3 c =
     let start = c .before .before .before .before .before in
     let first = start .args .first in
@@ -41,7 +41,7 @@ first-above-requires : tie.Need-first-above-requires
 first-above-requires c κs = search needs
 
 returns-4 : tie.Need-returns-4
-unfolding writeAnswer outsideMemory
+unfolding writeAnswer
 returns-4 c =
     let some = c .before .before .before .before in
     let start = some .before .before .before in
@@ -65,7 +65,7 @@ same-length : tie.Need-same-length
 same-length c = search needs
 
 returns-5 : tie.Need-returns-5
-unfolding writeAnswer outsideMemory
+unfolding writeAnswer
 returns-5 c =
     let called = c .before .before in
     let clean = called .before .before in
