@@ -86,7 +86,7 @@ enum {
 enum {
     HT1621_SAMPLE_ABOVE = 20,      /* a sample above 15 */
     HT1621_NOTHING_ASKED = 21,     /* no nibble or no command */
-    HT1621_FIRST_ABOVE = 22,       /* a first address above 31: addresses are 0 to 31 */
+    HT1621_ADDRESS_ABOVE = 22,     /* a first address above 31: addresses are 0 to 31 */
     HT1621_NIBBLE_ABOVE = 23,      /* a nibble above 15, with its place */
     HT1621_UNDEFINED_COMMAND = 24, /* with its place */
     HT1621_OUTPUT_SHORT = 25,      /* an output shorter than needed */
@@ -94,7 +94,8 @@ enum {
     HT1621_NOTED_ABOVE = 27,       /* a noted byte above 1, with its place */
     HT1621_MALFORMED = 28,         /* bytes that are no state record */
     HT1621_MEMORY_COUNT = 29,      /* a power-on memory that is not 32 values */
-    HT1621_RUNS_PAST_END = 30,     /* a first address from 0 to 31, but first + count above 32: the last nibbles would lie past address 31 */
+    HT1621_RUNS_PAST_END = 30,     /* a first address from 0 to 31, but first + count above 32: nibbles past address 31, which do not go
+                                      on at 0 */
     HT1621_TOO_MANY_COMMANDS = 31  /* more than 32 commands for one stream: give the others in a second call */
 };
 

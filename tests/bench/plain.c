@@ -307,7 +307,7 @@ static uint32_t plain_write(size_t first, const uint8_t *nibbles, size_t count, 
     if (count == 0)
         return refused(HT1621_NOTHING_ASKED, 0);
     if (first > 31)
-        return refused(HT1621_FIRST_ABOVE, 0);
+        return refused(HT1621_ADDRESS_ABOVE, 0);
     if (count > 32 - first)
         return refused(HT1621_RUNS_PAST_END, 0);
     for (size_t i = 0; i < count; i++)
@@ -330,7 +330,7 @@ static uint32_t plain_read(size_t first, size_t count, uint8_t *out, size_t room
     if (count == 0)
         return refused(HT1621_NOTHING_ASKED, 0);
     if (first > 31)
-        return refused(HT1621_FIRST_ABOVE, 0);
+        return refused(HT1621_ADDRESS_ABOVE, 0);
     if (count > 32 - first)
         return refused(HT1621_RUNS_PAST_END, 0);
     if (room < 21 + 8 * count)

@@ -268,7 +268,7 @@ static void refusals(void)
     r = ht1621_read(31, 2, out, sizeof out);
     CHECK(HT1621_READ_REFUSED(r) && HT1621_REFUSAL(r) == HT1621_RUNS_PAST_END && HT1621_PLACE(r) == 0);
     r = ht1621_read(32, 1, out, sizeof out);
-    CHECK(HT1621_READ_REFUSED(r) && HT1621_REFUSAL(r) == HT1621_FIRST_ABOVE && HT1621_PLACE(r) == 0);
+    CHECK(HT1621_READ_REFUSED(r) && HT1621_REFUSAL(r) == HT1621_ADDRESS_ABOVE && HT1621_PLACE(r) == 0);
     r = ht1621_commands(codes, sizeof codes, out, sizeof out);
     CHECK(HT1621_COMMANDS_REFUSED(r) && HT1621_REFUSAL(r) == HT1621_TOO_MANY_COMMANDS && HT1621_PLACE(r) == 0);
     r = ht1621_commands(&code, 1, out, sizeof out);

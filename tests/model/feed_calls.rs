@@ -106,10 +106,10 @@ pub fn refused_streams(script: &mut Script) {
     let nibbles = some_nibbles();
     script.words("21, 22 and 30");
     for (first, count) in [
-        (0, 0), (31, 0), (32, 0), (MOST, 0), (0, 33), (1, 32), (31, 2), (32, 1), (33, 1), (63, 1), (64, 1), (255, 1), (256, 1),
-        (1 << 32, 1), (MOST, 1), (MOST, 2), (MOST, 33), (MOST - 30, 32), (MOST - 31, 32),
+        (0, 0), (31, 0), (32, 0), (MOST, 0), (0, 33), (1, 32), (16, 32), (16, 40), (31, 2), (31, 3), (31, 33), (32, 1), (32, 2), (33, 1),
+        (34, 33), (63, 1), (64, 1), (255, 1), (256, 1), (1 << 32, 1), (MOST, 1), (MOST, 2), (MOST, 33), (MOST - 30, 32), (MOST - 31, 32),
     ] {
-        for room in [0, 29] {
+        for room in [0, 29, 400] {
             script.write(first, &nibbles[..count], room);
             script.read(first, count as u64, room);
         }
@@ -121,7 +121,7 @@ pub fn refused_streams(script: &mut Script) {
     script.words("23 and its place, after 21, 22 and 30 and before 25");
     for (first, list) in [
         (0, vec![16]), (3, vec![255]), (3, vec![1, 16]), (3, vec![1, 2, 16, 16]), (0, [vec![15; 31], vec![16]].concat()),
-        (31, vec![1, 16]), (32, vec![16]), (0, vec![16; 33]), (4, vec![15, 0, 128, 17]),
+        (31, vec![1, 16]), (32, vec![16]), (32, vec![1, 16]), (0, vec![16; 33]), (4, vec![15, 0, 128, 17]),
     ] {
         for room in [0, 60] {
             script.write(first, &list, room);
@@ -146,7 +146,7 @@ pub fn sent_commands(script: &mut Script) {
     script.words("refused commands");
     for list in [
         vec![], many[..33].to_vec(), vec![0x2c; 33], vec![0x2c], vec![0x01, 0x0a], vec![0x01, 0x29, 0xff, 0xc0],
-        [many[..31].to_vec(), vec![0xe1]].concat(), many[..40].to_vec(),
+        [many[..31].to_vec(), vec![0xe1]].concat(), [many[..32].to_vec(), vec![0x2c]].concat(), many[..40].to_vec(), vec![0x01; 160],
     ] {
         for room in [0, 26, 100] {
             script.lend('c', &list, room);

@@ -118,20 +118,37 @@ fn stream_cases(tally: &mut Tally) {
     tally.same("5 at address 3", Ok(five.to_vec()), write(3, &[5], 29));
 }
 
+// Which range is wrong: the first address, or the end, with room enough and with none.
+fn range_cases(tally: &mut Tally) {
+    const MOST: u64 = u64::MAX;
+    for (first, count, number) in [
+        (32, 1, 22), (32, 2, 22), (32, 33, 22), (34, 40, 22), (255, 1, 22), (MOST, 1, 22), (MOST, 2, 22), (MOST, 33, 22),
+        (0, 33, 30), (1, 32, 30), (1, 40, 30), (16, 17, 30), (16, 40, 30), (30, 3, 30), (31, 2, 30), (31, 3, 30), (31, 33, 30),
+    ] {
+        for room in [0, 1000] {
+            let told = Err((number, 0));
+            tally.same(&format!("write {first}, {count}"), told.clone(), write(first, &vec![5; count as usize], room));
+            tally.same(&format!("read {first}, {count}"), told, read(first, count, room));
+        }
+    }
+    for (first, count, number) in [(32, MOST, 22), (MOST, MOST, 22), (MOST, MOST - 1, 22), (0, MOST, 30), (1, MOST, 30), (31, MOST, 30)] {
+        tally.same(&format!("read {first}, {count}"), Err((number, 0)), read(first, count, 1000));
+    }
+}
+
 // Refusals of the driver, in their order.
 fn refusal_cases(tally: &mut Tally) {
     tally.same("21 before 22", Err((21, 0)), write(99, &[], 0));
-    tally.same("22 before 23", Err((22, 0)), write(32, &[16], 0));
-    tally.same("22 before 30", Err((22, 0)), write(32, &[16; 33], 0));
-    tally.same("30 before 23", Err((30, 0)), write(0, &[16; 33], 0));
+    tally.same("22 before 23", Err((22, 0)), write(32, &[1, 16], 0));
+    tally.same("30 before 23", Err((30, 0)), write(31, &[1, 16], 0));
     tally.same("23 before 25", Err((23, 1)), write(0, &[15, 16, 17], 0));
     tally.same("25", Err((25, 0)), write(0, &[15], 28));
     tally.same("read 21", Err((21, 0)), read(u64::MAX, 0, 0));
-    tally.same("read 22", Err((22, 0)), read(u64::MAX, 1, 0));
-    tally.same("read 22, huge both", Err((22, 0)), read(u64::MAX, u64::MAX, 0));
-    tally.same("read 30, huge count", Err((30, 0)), read(1, u64::MAX, 0));
+    range_cases(tally);
     tally.same("commands 21", Err((21, 0)), commands(&[], 0));
-    tally.same("commands 31", Err((31, 0)), commands(&[0x2C; 33], 0));
+    tally.same("commands 31", Err((31, 0)), commands(&[0x01; 33], 1000));
+    tally.same("commands 31, 160", Err((31, 0)), commands(&[0x01; 160], 3000));
+    tally.same("31 before 24", Err((31, 0)), commands(&[&[0x01; 32][..], &[0x2C]].concat(), 0));
     tally.same("commands 24", Err((24, 2)), commands(&[0, 1, 0x2C, 0x2C], 0));
     tally.same("decode 26, none", Err((26, 0)), decode(&[], 0));
     tally.same("decode 26, three", Err((26, 0)), decode(&[2, 2, 2], 0));

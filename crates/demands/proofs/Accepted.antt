@@ -2,8 +2,11 @@
 use mathlib.Core.Path.{_≡_, refl, subst}
 use mathlib.Core.Bool.{Bool, true, false, cond}
 use mathlib.Core.List.{List, [], _∷_, map}
-use Prim.Native.Nat.{ℕ, _+_, _*_, _/_}
+use Prim.Native.Nat.{ℕ, _+_, _*_, _/_, _<_}
+use native.Mathlib.Omega.{arith}
+use lib.Dec.{eqb}
 use lib.ListN.{length}
+use borrow.Author.Tests.{lt-ltb, le-ltb, ne-eqb}
 use Rattle.ground.specs.declared.Outcome.the-variants.{Written, Refused}
 use Rattle.ground.specs.Outcomes.{Rung, ladder, Row, AsTabled}
 use Rattle.ground.specs.Refusals.{refusalNumber, refusalPlace}
@@ -15,7 +18,7 @@ use Rattle.streams.specs.Streams.{writeStream, readStream, commandStream, decod
 use Rattle.streams.proofs.StreamsLaws.{write-length, read-length, commands-length, decoded-length}
 use Rattle.simulator.specs.Simulator.{stepReturns, advanceReturns, pinsReturns}
 use Rattle.host.specs.Host.{hostCode, recordRefusals, powerOnAnswer, powerOnReturns, writeReturns, readReturns, commandsReturns, decodeReturns}
-use Rattle.demands.specs.Accepted.{writeTable, readTable, commandTable, decodeTable, powerOnTable, codeBy, Accepted}
+use Rattle.demands.specs.Accepted.{writeTable, readTable, commandTable, decodeTable, powerOnTable, codeBy, Accepted, WhichRange}
 
 -- what a call returns of a ladder
 told : (rungs : List Rung) (size : ℕ) → hostCode (ladder Refused rungs (Written size)) ≡ codeBy (map rowOf rungs) size
@@ -80,3 +83,24 @@ accepted =
       advance = λ bytes. refl;
       pins = λ bytes cells. refl;
     }
+
+-- which range was wrong: the row that holds, past those that do not
+pub which-range : WhichRange
+which-range =
+    record {
+      writeAddress = λ first nibbles room above some.
+          accepted .write first nibbles room .refused (_ ∷ []) _ _ refl (none (length nibbles) some, tt) (lt-ltb 31 first above);
+      readAddress = λ first count room above some.
+          accepted .read first count room .refused (_ ∷ []) _ _ refl (none count some, tt) (lt-ltb 31 first above);
+      writeEnd = λ first nibbles room good past.
+          accepted .write first nibbles room .refused (_ ∷ _ ∷ []) _ _ refl
+          (none (length nibbles) (omega arith), (le-ltb 31 first good, tt)) (lt-ltb 32 (first + length nibbles) past);
+      readEnd = λ first count room good past.
+          accepted .read first count room .refused (_ ∷ _ ∷ []) _ _ refl (none count (omega arith), (le-ltb 31 first good, tt))
+          (lt-ltb 32 (first + count) past);
+      commandsMany = λ codes room many.
+          accepted .commands codes room .refused (_ ∷ []) _ _ refl (none (length codes) (omega arith), tt) (lt-ltb 32 (length codes) many);
+    }
+  where
+    none : (count : ℕ) → 0 < count → eqb count 0 ≡ false
+    none count some = ne-eqb count 0 (omega arith)

@@ -1,9 +1,7 @@
 -- The cases of RULES "Cases on both sides", computed from the definitions. Assumes nothing.
 use mathlib.Core.Path.{_≡_, _∙_, refl, ap}
 use mathlib.Core.Bool.{Bool, true, false}
-use mathlib.Core.List.{[], _∷_}
 use Prim.Native.Nat.{ℕ}
-use native.Mathlib.Omega.{arith}
 use Rattle.commands.specs.Commands.{byteMeaning}
 use Rattle.clock.specs.declared.Source.{Source}
 use Rattle.settings.specs.declared.IrqSource.{IrqSource}
@@ -16,9 +14,8 @@ use Rattle.frames.specs.Frames.{frame, closed}
 use Rattle.chip.specs.Chip.{steppedTo, stepped, settingsAfter, obeyedAs}
 use Rattle.port.specs.Port.{moved, framedBy, memoryAfter}
 use Rattle.streams.specs.Streams.{commandStream}
-use Rattle.driver.proofs.CasesLaws.{write-one, write-thirty-two, read-one, read-thirty-two, write-at-31, read-at-31}
-use Rattle.driver.proofs.CasesLaws.{write-first-above, write-past-end, read-first-above, read-past-end}
-use Rattle.demands.specs.Cases.{Cleared, largest, Cases}
+use Rattle.driver.proofs.CasesLaws.{write-one, write-thirty-two, read-one, read-thirty-two, write-at-31, write-past-31, read-at-31, read-past-31}
+use Rattle.demands.specs.Cases.{Cleared, Cases}
 
 -- ---- where (h), (i) and (j) begin: what their conditions name are numbers there, and the ticks can be computed
 
@@ -64,20 +61,7 @@ cases =
       a = λ memory. (refl, refl);
       b = λ chip. (refl, refl);
       c = λ first nibbles. (write-one first nibbles, write-thirty-two first nibbles, read-one first, read-thirty-two first);
-      d = λ n m room. (
-        write-at-31 n room,
-        write-past-end 31 (n ∷ m ∷ []) room (omega arith) (omega arith),
-        read-at-31 room,
-        read-past-end 31 2 room (omega arith) (omega arith),
-      );
-      ends = λ ns n room e. (
-        write-first-above largest (n ∷ []) room (omega arith) (omega arith),
-        write-first-above largest ns room (omega arith) (omega arith),
-        write-past-end 31 ns room (omega arith) (omega arith),
-        read-first-above largest 1 room (omega arith) (omega arith),
-        read-first-above largest largest room (omega arith) (omega arith),
-        read-past-end 31 largest room (omega arith) (omega arith),
-      );
+      d = λ n m room. (write-at-31 n room, write-past-31 n m room, read-at-31 room, read-past-31 room);
       e = λ code. refl;
       f = (refl, refl);
       g = λ s. (refl, refl, refl, refl);

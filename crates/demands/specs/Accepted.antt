@@ -3,11 +3,11 @@
 use mathlib.Core.Path.{_≡_}
 use mathlib.Core.Bool.{cond, not, _||_}
 use mathlib.Core.List.{List, [], _∷_}
-use Prim.Native.Nat.{ℕ, _+_, _*_, _/_, _%_}
+use Prim.Native.Nat.{ℕ, _+_, _*_, _/_, _%_, _≤_, _<_}
 use lib.Dec.{eqb, ltb}
 use lib.ListN.{length}
 use Rattle.ground.specs.declared.Outcome.the-variants.{Written}
-use Rattle.ground.specs.Outcomes.{Row, row, numberBy, AsTabled}
+use Rattle.ground.specs.Outcomes.{Row, row, numberBy, RefusedWith, AsTabled}
 use Rattle.ground.specs.Places.{lowest, somewhere}
 use Rattle.commands.specs.Commands.{commandFault}
 use Rattle.chip.specs.Chip.{stepped}
@@ -93,6 +93,20 @@ pub record Accepted : Type 0 where
       → stepReturns bytes sample ≡ numberBy (stepTable bytes sample) (answerCode (stepped (chipOf bytes) sample .answer))
   pub advance : (bytes : List ℕ) → advanceReturns bytes ≡ numberBy (advanceTable bytes) 0
   pub pins : (bytes cells : List ℕ) → pinsReturns bytes cells ≡ numberBy (pinsTable bytes cells) (pinsCode (pinsShown (chipOf bytes)))
+
+-- Which range was wrong, whatever else is at fault and in any room. It is said of every first address and every count, so of 2^64 - 1
+-- for both, whose sum 64 bits do not hold.
+pub record WhichRange : Type 0 where
+  -- a first address above 31, whatever the count from 1 up
+  pub writeAddress : (first : ℕ) (nibbles : List ℕ) (room : ℕ) → 31 < first → 0 < length nibbles
+      → RefusedWith 22 0 (writeAnswer first nibbles room)
+  pub readAddress : (first count room : ℕ) → 31 < first → 0 < count → RefusedWith 22 0 (readAnswer first count room)
+  -- one that is not, and first + count above 32
+  pub writeEnd : (first : ℕ) (nibbles : List ℕ) (room : ℕ) → first ≤ 31 → 32 < first + length nibbles
+      → RefusedWith 30 0 (writeAnswer first nibbles room)
+  pub readEnd : (first count room : ℕ) → first ≤ 31 → 32 < first + count → RefusedWith 30 0 (readAnswer first count room)
+  -- more than 32 commands
+  pub commandsMany : (codes : List ℕ) (room : ℕ) → 32 < length codes → RefusedWith 31 0 (commandAnswer codes room)
 
 -- A write, a read and commands that the driver accepts: given just room enough, it writes the stream.
 abbrev pub AcceptsWrite : ℕ → List ℕ → Type 0

@@ -37,10 +37,6 @@ pub record Cleared (clock : Source) (s : Settings) : Type 0 where
   pub wZero : s .counters .timer .watchdog .count ≡ 0
   pub flagOff : s .counters .timer .watchdog .flag ≡ false
 
--- The largest `usize`, 2^64 - 1.
-abbrev pub largest : ℕ
-largest = 18446744073709551615
-
 pub record Cases : Type 0 where
   -- (a) after power-on 15 is answered 0, and 14 after it 1
   pub a : (memory : List ℕ) → (answerNumber (stepped (freshChip memory) 15 .answer) ≡ 0)
@@ -55,12 +51,6 @@ pub record Cases : Type 0 where
   pub d : (n m room : ℕ) → (n ≤ 15 → 29 ≤ room → writeAnswer 31 (n ∷ []) room ≡ Written 29)
       × (RefusedWith 30 0 (writeAnswer 31 (n ∷ m ∷ []) room))
       × (29 ≤ room → readAnswer 31 1 room ≡ Written 29) × (RefusedWith 30 0 (readAnswer 31 2 room))
-  -- (d) at the ends of `usize`, where first and count make a sum of 65 bits: 22 for the first address, whether one nibble is asked
-  -- or 2^64 - 1; and from 31 on 30
-  pub ends : (ns : List ℕ) (n room : ℕ) → length ns ≡ largest → (RefusedWith 22 0 (writeAnswer largest (n ∷ []) room))
-      × (RefusedWith 22 0 (writeAnswer largest ns room)) × (RefusedWith 30 0 (writeAnswer 31 ns room))
-      × (RefusedWith 22 0 (readAnswer largest 1 room)) × (RefusedWith 22 0 (readAnswer largest largest room))
-      × (RefusedWith 30 0 (readAnswer 31 largest room))
   -- (e) one command takes 27
   pub e : (code : ℕ) → length (commandStream (code ∷ [])) ≡ 27
   -- (f) 2B is 4 commons, 2C is undefined

@@ -4,7 +4,7 @@ use mathlib.Core.Bool.{Bool, not, _||_}
 use mathlib.Core.List.{List, [], _∷_}
 use lib.Dec.{eqb, ltb}
 use lib.ListN.{length}
-use Rattle.ground.specs.declared.Refusal.the-variants.{NothingAsked, FirstAbove, RunsPastEnd, TooManyCommands, NibbleAbove, UndefinedCommand}
+use Rattle.ground.specs.declared.Refusal.the-variants.{NothingAsked, AddressAbove, RunsPastEnd, TooManyCommands, NibbleAbove, UndefinedCommand}
 use Rattle.ground.specs.declared.Refusal.the-variants.{NotedCount, NotedAbove}
 use Rattle.ground.specs.declared.Outcome.{Outcome}
 use Rattle.ground.specs.Outcomes.{Rung, refusedIf, answered}
@@ -32,10 +32,10 @@ abbrev pub nothing : ℕ → Bool
 nothing count = eqb count 0
 
 -- There is no such first address.
-abbrev pub firstAbove : ℕ → Bool
-firstAbove first = ltb lastAddress first
+abbrev pub addressAbove : ℕ → Bool
+addressAbove first = ltb lastAddress first
 
--- As many addresses from `first` on run past the end of the memory.
+-- `count` addresses from `first` on run past the last one. It is asked after `addressAbove`, so of a first address that there is.
 abbrev pub runsPastEnd : ℕ → ℕ → Bool
 runsPastEnd first count = ltb addresses (first + count)
 
@@ -58,7 +58,7 @@ miscounted count = eqb count 0 || ltb mostNotes count || not (eqb (count % nibbl
 abbrev pub writeRefusals : ℕ → List ℕ → ℕ → List Rung
 writeRefusals first nibbles room =
     refusedIf (nothing (length nibbles)) NothingAsked
-    ∷ refusedIf (firstAbove first) FirstAbove
+    ∷ refusedIf (addressAbove first) AddressAbove
     ∷ refusedIf (runsPastEnd first (length nibbles)) RunsPastEnd
     ∷ refusedIf (somewhere nibbleFault nibbles) (NibbleAbove (lowest nibbleFault nibbles))
     ∷ noRoom (writeStream first nibbles) room ∷ []
@@ -70,7 +70,7 @@ writeAnswer first nibbles room = answered (writeRefusals first nibbles room) (wr
 abbrev pub readRefusals : ℕ → ℕ → ℕ → List Rung
 readRefusals first count room =
     refusedIf (nothing count) NothingAsked
-    ∷ refusedIf (firstAbove first) FirstAbove
+    ∷ refusedIf (addressAbove first) AddressAbove
     ∷ refusedIf (runsPastEnd first count) RunsPastEnd
     ∷ noRoom (readStream first count) room ∷ []
 

@@ -27,7 +27,7 @@ pub fn write(first: usize, nibbles: &[u8], out: &mut [u8]) -> Outcome
         return Outcome::Refused(Refusal::NothingAsked);
     }
     if ground::ADDRESSES <= first {
-        return Outcome::Refused(Refusal::FirstAbove);
+        return Outcome::Refused(Refusal::AddressAbove);
     }
     if ground::ADDRESSES - first < nibbles.len() {
         return Outcome::Refused(Refusal::RunsPastEnd);
@@ -51,7 +51,7 @@ pub fn read(first: usize, count: usize, out: &mut [u8]) -> Outcome
         return Outcome::Refused(Refusal::NothingAsked);
     }
     if ground::ADDRESSES <= first {
-        return Outcome::Refused(Refusal::FirstAbove);
+        return Outcome::Refused(Refusal::AddressAbove);
     }
     if ground::ADDRESSES - first < count {
         return Outcome::Refused(Refusal::RunsPastEnd);

@@ -1,14 +1,14 @@
 -- RULES "Driver streams", its table of refusals: the number and the place of each. Assumes nothing.
 use Prim.Native.Nat.{ℕ}
 use Rattle.ground.specs.declared.Refusal.{Refusal}
-use Rattle.ground.specs.declared.Refusal.the-variants.{SampleAbove, NothingAsked, FirstAbove, NibbleAbove, UndefinedCommand, OutputShort, NotedCount, NotedAbove, Malformed, MemoryCount}
+use Rattle.ground.specs.declared.Refusal.the-variants.{SampleAbove, NothingAsked, AddressAbove, NibbleAbove, UndefinedCommand, OutputShort, NotedCount, NotedAbove, Malformed, MemoryCount}
 use Rattle.ground.specs.declared.Refusal.the-variants.{RunsPastEnd, TooManyCommands}
 
 -- The number of each refusal.
 abbrev pub refusalNumber : Refusal → ℕ
 refusalNumber SampleAbove = 20
 refusalNumber NothingAsked = 21
-refusalNumber FirstAbove = 22
+refusalNumber AddressAbove = 22
 refusalNumber (NibbleAbove place) = 23
 refusalNumber (UndefinedCommand place) = 24
 refusalNumber OutputShort = 25
@@ -23,7 +23,7 @@ refusalNumber TooManyCommands = 31
 abbrev pub refusalPlace : Refusal → ℕ
 refusalPlace SampleAbove = 0
 refusalPlace NothingAsked = 0
-refusalPlace FirstAbove = 0
+refusalPlace AddressAbove = 0
 refusalPlace (NibbleAbove place) = place
 refusalPlace (UndefinedCommand place) = place
 refusalPlace OutputShort = 0

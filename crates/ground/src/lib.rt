@@ -19,7 +19,7 @@ pub enum Refusal {
     // 21: no nibble or no command asked
     NothingAsked,
     // 22: a first address above 31
-    FirstAbove,
+    AddressAbove,
     // 23: a nibble above 15
     NibbleAbove(usize),
     // 24: an undefined command
@@ -48,7 +48,7 @@ impl Refusal {
         match self {
             Refusal::SampleAbove => 20,
             Refusal::NothingAsked => 21,
-            Refusal::FirstAbove => 22,
+            Refusal::AddressAbove => 22,
             Refusal::NibbleAbove(_) => 23,
             Refusal::UndefinedCommand(_) => 24,
             Refusal::OutputShort => 25,
@@ -68,7 +68,7 @@ impl Refusal {
         match self {
             Refusal::SampleAbove => 0,
             Refusal::NothingAsked => 0,
-            Refusal::FirstAbove => 0,
+            Refusal::AddressAbove => 0,
             Refusal::NibbleAbove(place) => place,
             Refusal::UndefinedCommand(place) => place,
             Refusal::OutputShort => 0,

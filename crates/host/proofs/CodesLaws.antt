@@ -9,7 +9,7 @@ use lib.ListN.{length}
 use borrow.Author.Tests.{lt-ltb, le-ltb, ltb-false}
 use Rattle.ground.proofs.ChoiceLaws.{either, by-cases}
 use Rattle.ground.specs.declared.Refusal.{Refusal}
-use Rattle.ground.specs.declared.Refusal.the-variants.{SampleAbove, NothingAsked, FirstAbove, NibbleAbove, UndefinedCommand}
+use Rattle.ground.specs.declared.Refusal.the-variants.{SampleAbove, NothingAsked, AddressAbove, NibbleAbove, UndefinedCommand}
 use Rattle.ground.specs.declared.Refusal.the-variants.{OutputShort, NotedCount, NotedAbove, Malformed, MemoryCount, RunsPastEnd, TooManyCommands}
 use Rattle.ground.specs.Places.{lowest}
 use Rattle.ground.specs.Refusals.{refusalNumber, refusalPlace}
@@ -26,7 +26,7 @@ use Rattle.host.specs.Host.{refusedCode, hostCode}
 number-small : (why : Refusal) → refusalNumber why ≤ 255
 number-small SampleAbove = omega arith
 number-small NothingAsked = omega arith
-number-small FirstAbove = omega arith
+number-small AddressAbove = omega arith
 number-small (NibbleAbove place) = omega arith
 number-small (UndefinedCommand place) = omega arith
 number-small OutputShort = omega arith
