@@ -94,8 +94,8 @@ enum {
     HT1621_NOTED_ABOVE = 27,       /* a noted byte above 1, with its place */
     HT1621_MALFORMED = 28,         /* bytes that are no state record */
     HT1621_MEMORY_COUNT = 29,      /* a power-on memory that is not 32 values */
-    HT1621_RUNS_PAST_END = 30,     /* a first address from 0 to 31, but first + count above 32: nibbles past address 31, which do not go
-                                      on at 0 */
+    HT1621_RUNS_PAST_END = 30,     /* a first address from 0 to 31, but first + count above 32: the run would pass address 31, and it
+                                      does not go on at 0 */
     HT1621_TOO_MANY_COMMANDS = 31  /* more than 32 commands for one stream: give the others in a second call */
 };
 
