@@ -132,15 +132,19 @@ fn range_cases(tally: &mut Tally) {
         }
     }
     for (first, count, number) in [(32, MOST, 22), (MOST, MOST, 22), (MOST, MOST - 1, 22), (0, MOST, 30), (1, MOST, 30), (31, MOST, 30)] {
-        tally.same(&format!("read {first}, {count}"), Err((number, 0)), read(first, count, 1000));
+        for room in [0, 1000] {
+            tally.same(&format!("read {first}, {count}"), Err((number, 0)), read(first, count, room));
+        }
     }
 }
 
 // Refusals of the driver, in their order.
 fn refusal_cases(tally: &mut Tally) {
     tally.same("21 before 22", Err((21, 0)), write(99, &[], 0));
-    tally.same("22 before 23", Err((22, 0)), write(32, &[1, 16], 0));
-    tally.same("30 before 23", Err((30, 0)), write(31, &[1, 16], 0));
+    for nibbles in [[16, 1], [1, 16]] {
+        tally.same("22 before 23", Err((22, 0)), write(32, &nibbles, 0));
+        tally.same("30 before 23", Err((30, 0)), write(31, &nibbles, 0));
+    }
     tally.same("23 before 25", Err((23, 1)), write(0, &[15, 16, 17], 0));
     tally.same("25", Err((25, 0)), write(0, &[15], 28));
     tally.same("read 21", Err((21, 0)), read(u64::MAX, 0, 0));
@@ -148,7 +152,8 @@ fn refusal_cases(tally: &mut Tally) {
     tally.same("commands 21", Err((21, 0)), commands(&[], 0));
     tally.same("commands 31", Err((31, 0)), commands(&[0x01; 33], 1000));
     tally.same("commands 31, 160", Err((31, 0)), commands(&[0x01; 160], 3000));
-    tally.same("31 before 24", Err((31, 0)), commands(&[&[0x01; 32][..], &[0x2C]].concat(), 0));
+    tally.same("31 before 24", Err((31, 0)), commands(&[0x2C; 33], 0));
+    tally.same("31 before 24, the last", Err((31, 0)), commands(&[&[0x01; 32][..], &[0x2C]].concat(), 0));
     tally.same("commands 24", Err((24, 2)), commands(&[0, 1, 0x2C, 0x2C], 0));
     tally.same("decode 26, none", Err((26, 0)), decode(&[], 0));
     tally.same("decode 26, three", Err((26, 0)), decode(&[2, 2, 2], 0));
