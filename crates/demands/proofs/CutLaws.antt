@@ -14,6 +14,7 @@ use Rattle.ground.specs.Sizes.{addresses}
 use Rattle.ground.specs.Values.{values, agree}
 use Rattle.lines.specs.declared.Levels.{Levels}
 use Rattle.phases.specs.declared.Phase.the-variants.{Idle, Writing}
+use Rattle.phases.specs.Phases.{round}
 use Rattle.phases.specs.declared.Line.the-variants.{Released}
 use Rattle.answers.specs.declared.Answer.{Answer}
 use Rattle.answers.specs.declared.Answer.the-variants.{Nothing, Opened, Stored}
@@ -32,7 +33,7 @@ use Rattle.demands.proofs.StreamLevels.{up, bitsL, headL, nibblesL}
 -- ---- the nibbles, cut anywhere
 
 -- a frame that takes nibbles: no bit of the next, at an address
-abbrev ready : Bool → List ℕ → ℕ → Port
+abbrev pub ready : Bool → List ℕ → ℕ → Port
 ready b m at = record { memory = m; levels = up b; phase = Writing 0 0 at 0; line = Released }
 
 -- the frame was at `at` when the nibbles began, and the memory takes them from a on
@@ -46,7 +47,7 @@ writtenPort m a at ns whole bits now =
     }
 
 -- what one nibble leaves
-nibble-leaves : (b : Bool) (m : List ℕ) (a n : ℕ) → a < addresses → n < 16
+nibble-leaves : (b : Bool) (m : List ℕ) (a n : ℕ) → a < round → n < 16
     → runP (ready b m (reached a)) (bitsL (nibbleBits n)) ≡ ready (bitAt 3 n) (set m a n) (reached (suc a))
 unfolding moved framedBy frame taken nibbleTaken memoryAfter
 nibble-leaves b m a n inside small =
@@ -119,7 +120,20 @@ by-limit P limit below past k = by (decLt k limit)
         back : limit + (k - limit) ≡ k
         back = omega arith
 
+-- the head leads to any address
+pub head-leaves : (m : List ℕ) (first : ℕ) → first < round → runP (idle m high) (restL first) ≡ ready (bitAt 0 first) m (reached first)
+unfolding moved framedBy frame taken identTaken identified writeToTaken memoryAfter
+head-leaves m first h = ap (ready (bitAt 0 first) m) (address-sent first h)
+
+pub head-answers : (m : List ℕ) (first : ℕ) → trace (idle m high) (restL first) ≡ Opened ∷ bitAnswers 9
+unfolding moved framedBy frame taken identTaken identified writeToTaken memoryAfter
+head-answers m first = refl
+
 module _ (m : List ℕ) (first : ℕ) (ns : List ℕ) (fit : Fit first ns) where
+  -- the first address is one of the frame's
+  near : first < round
+  near = omega (arith, fit .some, fit .inside)
+
   abbrev tail : List Levels
   tail = restL first ++ nibblesL ns
 
@@ -146,21 +160,13 @@ module _ (m : List ℕ) (first : ℕ) (ns : List ℕ) (fit : Fit first ns) where
     agree (λ k. trace (idle m high) (take k tail)) (λ k. take k dueAnswers) 19 head-told k h,
   )
 
-  head-leaves : runP (idle m high) (restL first) ≡ ready (bitAt 0 first) m (reached first)
-  unfolding moved framedBy frame taken identTaken identified writeToTaken memoryAfter
-  head-leaves = ap (ready (bitAt 0 first) m) (address-sent first (omega (arith, fit .some, fit .inside)))
-
-  head-answers : trace (idle m high) (restL first) ≡ Opened ∷ bitAnswers 9
-  unfolding moved framedBy frame taken identTaken identified writeToTaken memoryAfter
-  head-answers = refl
-
   -- twenty samples are nine bits, and then eight are four
   nibble-phase : (j : ℕ) → nibblePhase (reached first) ns (j / 8) (j % 8 / 2) ≡ writePhase first ns (bitsTaken (suc (19 + j)))
   nibble-phase j =
       let bits = bitsTaken (suc (19 + j)) in
       let whole : j / 8 ≡ (bits - 9) / 4 = omega arith in
       let some : j % 8 / 2 ≡ (bits - 9) % 4 = omega arith in
-      ap (λ (at : ℕ). nibblePhase at ns (j / 8) (j % 8 / 2)) (reached-small first (omega (arith, fit .some, fit .inside)))
+      ap (λ (at : ℕ). nibblePhase at ns (j / 8) (j % 8 / 2)) (reached-small first near)
       ∙ ap₂ (nibblePhase first ns) whole some
       ∙ sym (rw (le-ltb bits 3 (omega arith), le-ltb bits 9 (omega arith)))
 
@@ -183,12 +189,12 @@ module _ (m : List ℕ) (first : ℕ) (ns : List ℕ) (fit : Fit first ns) where
       let body = nibbles-cut ns j (bitAt 0 first) m first (fit .inside) (fit .nibbles) in (
         ap (runP (idle m high)) cut
             ∙ run-append (idle m high) (restL first) (take j (nibblesL ns))
-            ∙ ap (λ (q : Port). runP q (take j (nibblesL ns))) head-leaves
+            ∙ ap (λ (q : Port). runP q (take j (nibblesL ns))) (head-leaves m first near)
             ∙ body .0
             ∙ nibbles-stand j,
         ap (trace (idle m high)) cut
             ∙ trace-append (idle m high) (restL first) (take j (nibblesL ns))
-            ∙ ap₂ (λ (done : List Answer) (q : Port). done ++ trace q (take j (nibblesL ns))) head-answers head-leaves
+            ∙ ap₂ (λ (done : List Answer) (q : Port). done ++ trace q (take j (nibblesL ns))) (head-answers m first) (head-leaves m first near)
             ∙ ap (λ (rest : List Answer). Opened ∷ bitAnswers 9 ++ rest) (body .1)
             ∙ sym (take-append-add (Opened ∷ bitAnswers 9) (nibbleAnswers first ns) j),
       )

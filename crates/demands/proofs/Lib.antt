@@ -12,6 +12,8 @@ pub mod Ports
 pub mod ReadLaws
 pub mod RecordLaws
 pub mod Records
+pub mod Round
+pub mod RoundLaws
 pub mod SentLaws
 pub mod SettingsLaws
 pub mod StoppedLaws

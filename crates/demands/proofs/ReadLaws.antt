@@ -3,7 +3,7 @@
 use mathlib.Core.Path.{_≡_, _∙_, refl, sym, ap, ap₂}
 use mathlib.Core.Bool.{Bool, true, false, cond, not, _&&_}
 use mathlib.Core.List.{List, [], _∷_, _++_, map}
-use Prim.Native.Nat.{ℕ, zero, suc, _+_, _≤_}
+use Prim.Native.Nat.{ℕ, zero, suc, _+_, _≤_, _<_}
 use native.Mathlib.Omega.{arith}
 use lib.Dec.{eqb}
 use lib.ListN.{length, getD, drop}
@@ -13,6 +13,7 @@ use Rattle.ground.specs.Sizes.{addresses}
 use Rattle.ground.specs.Values.{values, agree}
 use Rattle.lines.specs.declared.Levels.{Levels}
 use Rattle.phases.specs.declared.Phase.the-variants.{Reading}
+use Rattle.phases.specs.Phases.{round}
 use Rattle.phases.specs.declared.Line.{Line}
 use Rattle.phases.specs.declared.Line.the-variants.{Released, Driven}
 use Rattle.answers.specs.declared.Answer.{Answer}
@@ -63,7 +64,7 @@ after-notes c (sample s ∷ es) v =
 abbrev pub offering : Bool → Line → List ℕ → ℕ → Port
 offering b line m a = record { memory = m; levels = up b; phase = Reading a 0; line = line }
 
-abbrev restL : ℕ → List Levels
+abbrev pub restL : ℕ → List Levels
 restL first = up true ∷ bitsL (readId ++ addressBits first)
 
 abbrev pub readL : ℕ → ℕ → List Levels
@@ -74,9 +75,13 @@ reached-by : (m : List ℕ) (first : ℕ)
 unfolding moved framedBy frame taken identTaken identified readToTaken memoryAfter
 reached-by m first = refl
 
-head-trace : (m : List ℕ) (first : ℕ) → trace (idle m high) (restL first) ≡ Opened ∷ bitAnswers 9
+pub head-trace : (m : List ℕ) (first : ℕ) → trace (idle m high) (restL first) ≡ Opened ∷ bitAnswers 9
 unfolding moved framedBy frame taken identTaken identified readToTaken memoryAfter
 head-trace m first = refl
+
+pub head-reads : (m : List ℕ) (first : ℕ) → first < round
+    → runP (idle m high) (restL first) ≡ offering (bitAt 0 first) Released m (reached first)
+head-reads m first h = reached-by m first ∙ ap (offering (bitAt 0 first) Released m) (address-sent first h)
 
 -- a sample with CS high is none that the host notes
 not-noted : (before : Bool) (x y : List ℕ) → cond (not before && false) x y ≡ y
@@ -166,7 +171,7 @@ module _ (p : Port) (first : ℕ) (vs rest : List ℕ) (fit : Fit first vs) (e :
   body = offering (bitAt 0 first) Released (p .memory) (reached first)
 
   reached-body : runP (idle (p .memory) high) (restL first) ≡ body
-  reached-body = reached-by (p .memory) first ∙ ap (offering (bitAt 0 first) Released (p .memory)) (address-sent first (omega (arith, fit .some, fit .inside)))
+  reached-body = head-reads (p .memory) first (omega (arith, fit .some, fit .inside))
 
   pub read-noted : notesL p (readL first (length vs)) ≡ bitsOf vs
   read-noted =

@@ -61,7 +61,7 @@ commands-levels (code ∷ codes) =
     sent (commandBits code) (sendCommands codes) ∙ ap (λ (r : List Levels). bitsL (commandBits code) ++ r) (commands-levels codes)
 
 -- a head of bits and then a body
-headed : (bs : List Bool) (body : List ℕ) (bodyL : List Levels) → map levels body ≡ bodyL
+pub headed : (bs : List Bool) (body : List ℕ) (bodyL : List Levels) → map levels body ≡ bodyL
     → map levels (opening ++ sendBits bs ++ body) ≡ headL bs ++ bodyL
 headed bs body bodyL e =
     ap (λ (r : List Levels). high ∷ up true ∷ r) (sent bs body ∙ ap (λ (r : List Levels). bitsL bs ++ r) e)
@@ -80,7 +80,7 @@ command-levels codes = headed commandId (sendCommands codes) (commandsL codes) (
 
 -- ---- one of the sixteen
 
-bits-sixteen : (bs : List Bool) (rest : List ℕ) → Sixteen rest → Sixteen (sendBits bs ++ rest)
+pub bits-sixteen : (bs : List Bool) (rest : List ℕ) → Sixteen rest → Sixteen (sendBits bs ++ rest)
 bits-sixteen [] rest v = v
 bits-sixteen (true ∷ bs) rest v = (omega arith, (omega arith, bits-sixteen bs rest v))
 bits-sixteen (false ∷ bs) rest v = (omega arith, (omega arith, bits-sixteen bs rest v))

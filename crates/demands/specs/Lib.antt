@@ -5,5 +5,6 @@ pub mod Demand2
 pub mod Demand3
 pub mod Events
 pub mod Records
+pub mod Round
 pub mod Stopped
 pub mod TimeOut

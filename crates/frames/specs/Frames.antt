@@ -14,8 +14,7 @@ use Rattle.answers.specs.declared.Answer.the-variants.{Nothing, Opened, Closed,
 use Rattle.frames.specs.declared.Upshot.{Upshot}
 use Rattle.frames.specs.declared.Upshot.the-variants.{Answered, Nibble, Code}
 use Rattle.frames.specs.declared.Framed.{Framed}
-use Rattle.phases.specs.Phases.{round}
-use Rattle.phases.specs.Phases.{unfinished}
+use Rattle.phases.specs.Phases.{round, unfinished}
 
 -- A frame after a sample, by its parts.
 abbrev pub framed : Phase → Line → Upshot → Framed
@@ -29,7 +28,7 @@ more value bit = (2 * value + bitNumber bit) % 512
 abbrev pub turned : ℕ → ℕ
 turned value = value / 8 % 2 + 2 * (value / 4 % 2) + 4 * (value / 2 % 2) + 8 * (value % 2)
 
--- The address that six bits say, and the address after an address: both go round.
+-- The address that six bits say, and the address after an address, which comes round to the first after the last.
 abbrev pub reached : ℕ → ℕ
 reached value = value % round
 

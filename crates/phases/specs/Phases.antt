@@ -2,15 +2,14 @@
 -- the numbers of phases and of DATA. Assumes nothing.
 use Prim.Native.Nat.{ℕ, _+_}
 use Rattle.ground.specs.Bits.{bitNumber}
-use Rattle.ground.specs.Sizes.{addresses}
 use Rattle.phases.specs.declared.Phase.{Phase}
 use Rattle.phases.specs.declared.Phase.the-variants.{Idle, Ident, ReadTo, WriteTo, Reading, Writing, Command, Dead}
 use Rattle.phases.specs.declared.Line.{Line}
 use Rattle.phases.specs.declared.Line.the-variants.{Released, Driven}
 
--- By the house rule A5 counts for nothing: a frame goes round through the memory's own addresses.
+-- A frame's address is six bits, A5 to A0: it goes round through 64 addresses, of which the memory has the lower half.
 abbrev pub round : ℕ
-round = addresses
+round = 64
 
 -- The address that a frame has reached, whose nibble it can offer; 0 where it has reached none.
 abbrev pub address : Phase → ℕ

@@ -8,8 +8,8 @@ use ground::Outcome;
 use ground::Refusal;
 use lines::Levels;
 
-// How many addresses a frame counts through before it comes round to the first.
-pub const ROUND: u16 = ground::ADDRESSES as u16;
+// How many addresses a frame counts through before it comes round to the first: those of six bits.
+pub const ROUND: u16 = 64;
 
 // Where a record has the frame's bytes: the lines first, then the phase, its unfinished bits with their value, its address and
 // its reading position, and DATA last.

@@ -12,13 +12,15 @@ use Rattle.frames.specs.Frames.{frame}
 use Rattle.port.specs.declared.Port.{Port}
 use Rattle.port.specs.declared.Moved.{Moved}
 
--- Of all that a sample can come to only a complete nibble changes the memory.
+-- Of all that a sample can come to only a complete nibble changes the memory, and only at an address that the memory has: `set`
+-- past the end of a list leaves it.
 unfoldable pub memoryAfter : Upshot → List ℕ → List ℕ
 memoryAfter (Answered answer) memory = memory
 memoryAfter (Nibble at nibble) memory = set memory at nibble
 memoryAfter (Code code) memory = memory
 
--- What the frame makes of a sample, by the levels before and after it and the nibble at the frame's address.
+-- What the frame makes of a sample, by the levels before and after it and the nibble at the frame's address, which is 0 where the
+-- memory has no such address.
 unfoldable pub framedBy : Port → Levels → Framed
 framedBy port new =
     frame (edge (port .levels) new) (getD (port .memory) (address (port .phase)) 0) (port .phase) (port .line)

@@ -1,18 +1,19 @@
 -- What a WR rise and an RD fall make of a valid record, phase by phase: what the frame's rule makes of the phase that byte 33
 -- says is written as the bytes of the statement. Assumes nothing.
-use mathlib.Core.Path.{_≡_, _∙_, refl, sym, ap}
+use mathlib.Core.Path.{_≡_, _∙_, refl, sym, ap, subst}
 use mathlib.Core.Bool.{Bool, true, false, cond}
 use mathlib.Core.List.{List}
 use mathlib.Core.Logic.{inl, inr, ⊎-elim}
-use Prim.Native.Nat.{ℕ, zero, suc, _+_, _*_, _/_, _%_, _≤_, _<_}
+use Prim.Native.Nat.{ℕ, zero, suc, _+_, _*_, _/_, _%_, _^_, _≤_, _<_}
 use native.Mathlib.Nat.{add-zero, mod-eq-of-lt}
 use native.Mathlib.Omega.{arith}
-use lib.Dec.{eqb}
-use lib.ListN.{getD, take}
-use lib.Seq.{getD-take}
-use borrow.Author.Tests.{lt-ltb}
+use lib.Dec.{eqb, ltb}
+use lib.ListN.{getD, set, take, List·getD-eq-default}
+use lib.Seq.{getD-take, set-out}
+use borrow.Author.Tests.{lt-ltb, ltb-true, ltb-false}
 use Rattle.ground.specs.Bits.{bitAt, bitNumber}
 use Rattle.ground.proofs.BitsLaws.{bitNumber-bitAt}
+use Rattle.ground.proofs.ChoiceLaws.{by-cases}
 use Rattle.commands.specs.declared.Decoded.{Decoded}
 use Rattle.commands.specs.declared.Decoded.the-variants.{Undefined, Means}
 use Rattle.commands.specs.Commands.{codeMeaning}
@@ -34,10 +35,10 @@ use Rattle.state.specs.Record.{recordValid, chipOf}
 use Rattle.state.proofs.TripLaws.{valid-has}
 use Rattle.simulator.specs.Simulator.{answerCode}
 use Rattle.sheet.specs.Bytes.{byte}
-use Rattle.sheet.specs.Frames.{OnlyLevels, Leaves, due, Offers, bits, withBit, beforeLast, identified, nibbleOf, oneMore, Completes, Takes}
+use Rattle.sheet.specs.Frames.{OnlyLevels, Leaves, there, due, Offers, bits, withBit, beforeLast, identified, nibbleOf, stored, oneMore, Completes, Takes}
 use Rattle.sheet.proofs.BytesLaws.{bits-small}
 use Rattle.sheet.proofs.FramesLaws.{frameLeft, phase-at, code-said, low-said, high-said, address-said, position-said, read-frame, stray-fall, ident-made}
-use Rattle.sheet.proofs.SamplesLaws.{tells, stores, leaves, port-left, only, framed-by}
+use Rattle.sheet.proofs.SamplesLaws.{size, tells, stores, leaves, port-left, only, framed-by}
 
 -- only an unknown ID is answered otherwise than any other bit
 id-told : (phase : ℕ) → answerCode (cond (eqb phase 7) Unknown Taken) ≡ cond (eqb phase 7) 10 4
@@ -58,10 +59,17 @@ module _ (b : List ℕ) (valid : recordValid b ≡ true) (s : ℕ) (small : s �
     abbrev nibble : ℕ
     nibble = getD (take 32 b) (byte b 37) 0
 
+    -- past the memory there is nothing but 0
+    nibble-said : nibble ≡ there b
+    nibble-said =
+        by-cases (λ n. nibble ≡ n) (ltb (byte b 37) 32)
+        (λ t. getD-take 32 b (byte b 37) 0 (ltb-true (byte b 37) 32 t))
+        (λ f. List·getD-eq-default (take 32 b) 0 {n = byte b 37} (omega (arith, size b valid, ltb-false (byte b 37) 32 f)))
+
     due-said : bitNumber (bitAt (byte b 38) nibble) ≡ due b
     due-said =
-        ap (λ (n : ℕ). bitNumber (bitAt (byte b 38) n)) (getD-take 32 b (byte b 37) 0 (has .near))
-        ∙ bitNumber-bitAt (byte b 38) (byte b (byte b 37))
+        ap (λ (n : ℕ). bitNumber (bitAt (byte b 38) n)) nibble-said
+        ∙ bitNumber-bitAt (byte b 38) (there b)
 
     pub offers : Offers b s
     unfolding frame model.offered model.readOffered phaseRead answerCode
@@ -94,6 +102,19 @@ module _ (b : List ℕ) (valid : recordValid b ≡ true) (s : ℕ) (small : s �
     -- one more than eight bits fits into nine
     with-bit : model.more (bits b) (bitAt 3 s) ≡ withBit b s
     with-bit = rw (bitNumber-bitAt 3 s) (mod-eq-of-lt (omega (arith, bits-small b valid)))
+
+    -- six are an address as they stand
+    six-reach : byte b 34 ≡ 5 → model.reached (withBit b s) ≡ withBit b s
+    six-reach count =
+        let five : bits b < 32 = subst (λ n. bits b < 2 ^ n) count (has .small) in
+        mod-eq-of-lt (omega arith)
+
+    -- past the memory a nibble is stored nowhere
+    stored-said : (n : ℕ) → set (take 32 b) (byte b 37) n ≡ stored b n
+    stored-said n =
+        by-cases (λ m. set (take 32 b) (byte b 37) n ≡ m) (ltb (byte b 37) 32)
+        (λ t. refl)
+        (λ f. set-out (take 32 b) (byte b 37) n (omega (arith, size b valid, ltb-false (byte b 37) 32 f)))
 
     -- the ninth is ignored
     upper-eight : withBit b s / 2 % 256 ≡ bits b
@@ -175,12 +196,12 @@ module _ (b : List ℕ) (valid : recordValid b ≡ true) (s : ℕ) (small : s �
               leaves b valid s small (model.identified (withBit b s))
               (taken-by (Ident (byte b 34) (bits b)) (phase-at b valid 1 e) ∙ rw (count, with-bit)) _ _ _ (made .0) (id-told (identified (withBit b s))) (made .1);
           readsFrom = λ e count.
-              leads (ReadTo (byte b 34) (bits b)) (phase-at b valid 2 e) (Reading (withBit b s % 32) 0) _ (rw (count, with-bit)) refl;
+              leads (ReadTo (byte b 34) (bits b)) (phase-at b valid 2 e) (Reading (withBit b s) 0) _ (rw (count, with-bit, six-reach count)) refl;
           writesFrom = λ e count.
-              leads (WriteTo (byte b 34) (bits b)) (phase-at b valid 3 e) (Writing 0 0 (withBit b s % 32) 0) _ (rw (count, with-bit)) refl;
+              leads (WriteTo (byte b 34) (bits b)) (phase-at b valid 3 e) (Writing 0 0 (withBit b s) 0) _ (rw (count, with-bit, six-reach count)) refl;
           stores = λ e count.
               stores b valid s small (framed (Writing 0 0 (model.next (byte b 37)) 0) Released (Nibble (byte b 37) (nibbleOf (withBit b s))))
-              (taken-by (Writing (byte b 34) (bits b) (byte b 37) (byte b 38)) (phase-at b valid 5 e) ∙ rw (count, with-bit)) _ _ _ refl refl refl refl;
+              (taken-by (Writing (byte b 34) (bits b) (byte b 37) (byte b 38)) (phase-at b valid 5 e) ∙ rw (count, with-bit)) _ _ _ refl (stored-said (nibbleOf (withBit b s))) refl refl;
           commands = λ e count.
               ninth (codeMeaning (2 * bits b)) refl
               (taken-by (Command (byte b 34) (bits b)) (phase-at b valid 6 e) ∙ rw (count, with-bit, upper-eight));

@@ -72,7 +72,7 @@ module _ (b : List ℕ) (valid : recordValid b ≡ true) where
 -- after D3 the address steps
 pub read-frame : (at position : ℕ) (line : Line) → position ≤ 3
     → frameLeft (cond (ltb position 3) (Reading at (position + 1)) (Reading (model.next at) 0)) line
-    ≡ 4 ∷ 0 ∷ 0 ∷ 0 ∷ cond (eqb position 3) ((at + 1) % 32) at ∷ (position + 1) % 4 ∷ lineNumber line ∷ []
+    ≡ 4 ∷ 0 ∷ 0 ∷ 0 ∷ cond (eqb position 3) ((at + 1) % 64) at ∷ (position + 1) % 4 ∷ lineNumber line ∷ []
 read-frame at zero line h = refl
 read-frame at (suc zero) line h = refl
 read-frame at (suc (suc zero)) line h = refl

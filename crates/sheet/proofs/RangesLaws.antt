@@ -137,7 +137,7 @@ module _ (bytes : List ℕ) (r : WellFormed bytes) where
   frame-fits =
       rw (
         le-leb (byte bytes 32) 15 (r .lines),
-        lt-ltb (byte bytes 37) 32 (omega (arith, r .address)),
+        lt-ltb (byte bytes 37) 64 (omega (arith, r .address)),
         le-leb (byte bytes 38) 3 (r .position),
         le-leb (byte bytes 39) 2 (r .line),
         cs-right,

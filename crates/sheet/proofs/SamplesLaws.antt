@@ -47,7 +47,7 @@ module _ (b : List ℕ) (valid : recordValid b ≡ true) where
   abbrev c : Chip
   c = chipOf b
 
-  size : length (take 32 b) ≡ 32
+  pub size : length (take 32 b) ≡ 32
   unfolding chipOf
   size = valid-chip b valid .port .size
 

@@ -5,7 +5,7 @@ use mathlib.Core.Bool.{cond}
 use mathlib.Core.List.{List, [], _∷_, _++_}
 use mathlib.Core.Logic.{_⊎_}
 use Prim.Native.Nat.{ℕ, _+_, _*_, _/_, _%_, _^_, _<_}
-use lib.Dec.{eqb}
+use lib.Dec.{eqb, ltb}
 use lib.ListN.{getD, take, drop, set, replicate}
 use Rattle.simulator.specs.Simulator.{stepReturns, stepBytes}
 use Rattle.sheet.specs.Bytes.{byte}
@@ -26,18 +26,22 @@ Leaves b s returned frame = Stores b s returned (take 32 b) frame
 
 -- ---- an RD fall
 
--- The bit that is due: of the nibble at the address, byte 37, the one at the reading position, byte 38, D0 the lowest. It is
--- answered with the address that it came from, and DATA, byte 39, is 1 for a low bit and 2 for a high one.
+-- The nibble at the address, byte 37: from 32 on there is no memory, and it is 0.
+abbrev pub there : List ℕ → ℕ
+there b = cond (ltb (byte b 37) 32) (byte b (byte b 37)) 0
+
+-- The bit that is due: of that nibble the one at the reading position, byte 38, D0 the lowest. It is answered with the address
+-- that it came from, and DATA, byte 39, is 1 for a low bit and 2 for a high one.
 abbrev pub due : List ℕ → ℕ
-due b = byte b (byte b 37) / 2 ^ byte b 38 % 2
+due b = there b / 2 ^ byte b 38 % 2
 
 abbrev pub offerReturns : List ℕ → ℕ
 offerReturns b = 8 + 256 * byte b 37 + 65536 * due b
 
 pub record Offers (b : List ℕ) (s : ℕ) : Type 0 where
-  -- reading, phase 4: after D3 comes D0 of the next address, and 31 is followed by 0
+  -- reading, phase 4: after D3 comes D0 of the next address, and 63 is followed by 0
   pub reading : byte b 33 ≡ 4 → Leaves b s (offerReturns b)
-      (4 ∷ 0 ∷ 0 ∷ 0 ∷ cond (eqb (byte b 38) 3) ((byte b 37 + 1) % 32) (byte b 37) ∷ (byte b 38 + 1) % 4 ∷ (1 + due b) ∷ [])
+      (4 ∷ 0 ∷ 0 ∷ 0 ∷ cond (eqb (byte b 38) 3) ((byte b 37 + 1) % 64) (byte b 37) ∷ (byte b 38 + 1) % 4 ∷ (1 + due b) ∷ [])
   -- writing, phase 5: the position cycles; the address and the unfinished bits stay
   pub writing : byte b 33 ≡ 5 → Leaves b s (offerReturns b)
       (5 ∷ byte b 34 ∷ byte b 35 ∷ byte b 36 ∷ byte b 37 ∷ (byte b 38 + 1) % 4 ∷ (1 + due b) ∷ [])
@@ -65,6 +69,10 @@ identified id = cond (eqb id 6) 2 (cond (eqb id 5) 3 (cond (eqb id 4) 6 7))
 abbrev pub nibbleOf : ℕ → ℕ
 nibbleOf four = four / 8 % 2 + 2 * (four / 4 % 2) + 4 * (four / 2 % 2) + 8 * (four % 2)
 
+-- The memory with a nibble at the address, byte 37: from 32 on it stays as it was.
+abbrev pub stored : List ℕ → ℕ → List ℕ
+stored b nibble = cond (ltb (byte b 37) 32) (set (take 32 b) (byte b 37) nibble) (take 32 b)
+
 -- One bit more, in the same phase: DATA is released.
 abbrev pub oneMore : List ℕ → ℕ → List ℕ
 oneMore b s =
@@ -85,12 +93,12 @@ pub record Takes (b : List ℕ) (s : ℕ) : Type 0 where
   -- the third of an ID
   pub identifies : byte b 33 ≡ 1 → byte b 34 ≡ 2
       → Leaves b s (cond (eqb (identified (withBit b s)) 7) 10 4) (identified (withBit b s) ∷ replicate 6 0)
-  -- the sixth of an address, of which A5 is dropped: reading or writing begins there, at D0
-  pub readsFrom : byte b 33 ≡ 2 → byte b 34 ≡ 5 → Leaves b s 4 (4 ∷ 0 ∷ 0 ∷ 0 ∷ withBit b s % 32 ∷ 0 ∷ 0 ∷ [])
-  pub writesFrom : byte b 33 ≡ 3 → byte b 34 ≡ 5 → Leaves b s 4 (5 ∷ 0 ∷ 0 ∷ 0 ∷ withBit b s % 32 ∷ 0 ∷ 0 ∷ [])
-  -- the fourth of a nibble: it is stored, the address steps, and the reading position is D0
+  -- the sixth of an address: reading or writing begins there, at D0
+  pub readsFrom : byte b 33 ≡ 2 → byte b 34 ≡ 5 → Leaves b s 4 (4 ∷ 0 ∷ 0 ∷ 0 ∷ withBit b s ∷ 0 ∷ 0 ∷ [])
+  pub writesFrom : byte b 33 ≡ 3 → byte b 34 ≡ 5 → Leaves b s 4 (5 ∷ 0 ∷ 0 ∷ 0 ∷ withBit b s ∷ 0 ∷ 0 ∷ [])
+  -- the fourth of a nibble: it is stored, answered with its address, which then steps, and the reading position is D0
   pub stores : byte b 33 ≡ 5 → byte b 34 ≡ 3
-      → Stores b s (5 + 256 * byte b 37 + 65536 * nibbleOf (withBit b s)) (set (take 32 b) (byte b 37) (nibbleOf (withBit b s)))
-      (5 ∷ 0 ∷ 0 ∷ 0 ∷ (byte b 37 + 1) % 32 ∷ 0 ∷ 0 ∷ [])
+      → Stores b s (5 + 256 * byte b 37 + 65536 * nibbleOf (withBit b s)) (stored b (nibbleOf (withBit b s)))
+      (5 ∷ 0 ∷ 0 ∷ 0 ∷ (byte b 37 + 1) % 64 ∷ 0 ∷ 0 ∷ [])
   -- the ninth of a command
   pub commands : byte b 33 ≡ 6 → byte b 34 ≡ 8 → Completes b s

@@ -18,7 +18,7 @@ pub record WellFormed (bytes : List ℕ) : Type 0 where
   pub phase : byte bytes 33 ≤ 7
   pub valueLow : byte bytes 35 ≤ 255
   pub valueHigh : byte bytes 36 ≤ 255
-  pub address : byte bytes 37 ≤ 31
+  pub address : byte bytes 37 ≤ 63
   pub position : byte bytes 38 ≤ 3
   pub line : byte bytes 39 ≤ 2
   -- switches are 0 or 1, selections one of their codes
