@@ -7,8 +7,8 @@
 #ifndef HT1621_H
 #define HT1621_H
 
-#define HT1621_VERSION "3.0.0"
-#define HT1621_VERSION_NUMBER 30000 /* 10,000 x 3 + 100 x 0 + 0, to compare with */
+#define HT1621_VERSION "4.0.0"
+#define HT1621_VERSION_NUMBER 40000 /* 10,000 x 4 + 100 x 0 + 0, to compare with */
 
 /* ---- samples and answers ---- */
 
@@ -25,10 +25,10 @@ enum {
     HT1621_FRAME_CLOSED = 2,
     HT1621_FRAME_CUT = 3,        /* closed, and unfinished bits were dropped */
     HT1621_BIT_TAKEN = 4,
-    HT1621_NIBBLE_STORED = 5,    /* address, nibble */
+    HT1621_NIBBLE_STORED = 5,    /* address, below HT1621_FRAME_ADDRESSES, nibble; from HT1621_ADDRESSES on it is stored nowhere */
     HT1621_COMMAND_OBEYED = 6,   /* the upper eight bits of the code, 0 */
     HT1621_COMMAND_UNDEFINED = 7, /* the same of a code that means nothing */
-    HT1621_BIT_OFFERED = 8,      /* the address it came from, bit */
+    HT1621_BIT_OFFERED = 8,      /* the address it came from, below HT1621_FRAME_ADDRESSES, bit; from HT1621_ADDRESSES on it is 0 */
     HT1621_STRAY_EDGE = 9,
     HT1621_UNKNOWN_ID = 10,
     HT1621_CLASH = 11
@@ -86,7 +86,7 @@ enum {
 enum {
     HT1621_SAMPLE_ABOVE = 20,      /* a sample above 15 */
     HT1621_NOTHING_ASKED = 21,     /* no nibble or no command */
-    HT1621_ADDRESS_ABOVE = 22,     /* a first address above 31: addresses are 0 to 31 */
+    HT1621_ADDRESS_ABOVE = 22,     /* a first address above 31: those of the memory are 0 to 31 */
     HT1621_NIBBLE_ABOVE = 23,      /* a nibble above 15, with its place */
     HT1621_UNDEFINED_COMMAND = 24, /* with its place */
     HT1621_OUTPUT_SHORT = 25,      /* an output shorter than needed */
@@ -118,7 +118,8 @@ enum {
 
 /* A chip is these 64 bytes. A switch is 0 or 1. Bytes that are not as said here are no record, and every call refuses them. */
 #define HT1621_RECORD_BYTES 64
-#define HT1621_ADDRESSES 32
+#define HT1621_ADDRESSES 32       /* of the memory */
+#define HT1621_FRAME_ADDRESSES 64 /* that a frame counts through: those of the memory, and as many behind them that have none */
 
 enum {
     HT1621_AT_MEMORY = 0,      /* 32 bytes, a nibble each */
@@ -127,7 +128,7 @@ enum {
                                   5 writing, 6 commands, 7 dead */
     HT1621_AT_COUNT = 34,      /* how many bits are unfinished: at most 2, 5, 5, 3, 8 in phases 1, 2, 3, 5, 6, else 0 */
     HT1621_AT_VALUE = 35,      /* their value, first bit highest, below 2 to the count: two bytes, the low one first */
-    HT1621_AT_ADDRESS = 37,    /* 0 to 31, and 0 outside phases 4 and 5, as the two after it */
+    HT1621_AT_ADDRESS = 37,    /* 0 to 63, and 0 outside phases 4 and 5, as the two after it */
     HT1621_AT_POSITION = 38,   /* of the bit to be read next, 0 to 3 */
     HT1621_AT_DATA = 39,       /* 0 released, 1 low, 2 high */
     HT1621_AT_SYSTEM = 40,     /* switch */

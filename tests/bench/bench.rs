@@ -8,7 +8,7 @@ mod packs;
 mod plain;
 mod stack;
 
-use inputs::{capture, frames, mixed, nibbles, noted, power_on, with, CODES, RATE, RUNS, SOURCE};
+use inputs::{above, capture, frames, mixed, nibbles, noted, power_on, with, CODES, RATE, RUNS, SOURCE};
 use packs::{packs, Pack, NAMES};
 use std::hint::black_box;
 use std::process::exit;
@@ -158,8 +158,10 @@ fn jobs() -> Vec<Job> {
     let mut all = vec![
         steps("step, frames mixed", mixed()),
         steps_in_turn("step, 16 chips in turn", frames(2).concat()),
-        steps("step, a write frame", write),
-        steps("step, a read frame", read),
+        steps("step, a write frame", write.clone()),
+        steps("step, a write above 31", above(write)),
+        steps("step, a read frame", read.clone()),
+        steps("step, a read above 31", above(read)),
         steps("step, a command frame", command),
         calls("step, refused 20", power_on(), |pack, lab| pack.step(&mut lab.record, 16)),
         calls("step, refused 28 (byte 0)", with(&[(0, 16)], power_on()), |pack, lab| pack.step(&mut lab.record, 15)),

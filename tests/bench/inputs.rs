@@ -44,6 +44,12 @@ pub fn frames(count: usize) -> [Vec<u8>; 3] {
     ]
 }
 
+// The frame 32 addresses further on, where there is no memory: A5, the fourth bit sent, is 1.
+pub fn above(mut frame: Vec<u8>) -> Vec<u8> {
+    frame[8..10].iter_mut().for_each(|sample| *sample += 8);
+    frame
+}
+
 pub fn mixed() -> Vec<u8> {
     (1..=8).flat_map(|count| frames(count).concat()).collect()
 }

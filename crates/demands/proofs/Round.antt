@@ -120,6 +120,6 @@ write-frames c first rest es valid near low e =
       size = rw left (stores-size ns m first ∙ valid .port .size);
       last = λ i h k inside. rw left (stores-last ns m first i (valid .port .size) h k inside);
       kept = λ at none. rw left (stores-keep ns m first at none);
-      below = λ h. rw left (stores-below ns m first first (omega arith) h);
+      below = λ h. rw left (stores-below ns m first first (omega arith) (omega (arith, h)));
       settings = frame-settings c writeId first rest es low e q ran told (on .plain);
     })

@@ -55,8 +55,8 @@ module _ (m : List ℕ) (size : length m ≡ 32) (first : ℕ) where
   -- past the memory there is nothing but 0
   standing : (at : ℕ) → getD m at 0 ≡ standingAt m at
   standing at =
-      by-cases (λ n. getD m at 0 ≡ n) (ltb at 32) (λ t. refl)
-      (λ f. List·getD-eq-default m 0 {n = at} (omega (arith, size, ltb-false at 32 f)))
+      by-cases (λ n. getD m at 0 ≡ n) (ltb at _) (λ t. refl)
+      (λ f. List·getD-eq-default m 0 {n = at} (omega (arith, size, ltb-false at _ f)))
 
   bit-said : (n : ℕ) → bitAt (n % 4) (getD m (onFrom first (n / 4)) 0) ≡ bitDue m first n
   bit-said n = ap (bitAt (n % 4)) (standing (onFrom first (n / 4)))

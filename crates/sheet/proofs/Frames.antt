@@ -62,9 +62,9 @@ module _ (b : List ℕ) (valid : recordValid b ≡ true) (s : ℕ) (small : s �
     -- past the memory there is nothing but 0
     nibble-said : nibble ≡ there b
     nibble-said =
-        by-cases (λ n. nibble ≡ n) (ltb (byte b 37) 32)
-        (λ t. getD-take 32 b (byte b 37) 0 (ltb-true (byte b 37) 32 t))
-        (λ f. List·getD-eq-default (take 32 b) 0 {n = byte b 37} (omega (arith, size b valid, ltb-false (byte b 37) 32 f)))
+        by-cases (λ n. nibble ≡ n) (ltb (byte b 37) _)
+        (λ t. getD-take 32 b (byte b 37) 0 (omega (arith, ltb-true (byte b 37) _ t)))
+        (λ f. List·getD-eq-default (take 32 b) 0 {n = byte b 37} (omega (arith, size b valid, ltb-false (byte b 37) _ f)))
 
     due-said : bitNumber (bitAt (byte b 38) nibble) ≡ due b
     due-said =
@@ -112,9 +112,8 @@ module _ (b : List ℕ) (valid : recordValid b ≡ true) (s : ℕ) (small : s �
     -- past the memory a nibble is stored nowhere
     stored-said : (n : ℕ) → set (take 32 b) (byte b 37) n ≡ stored b n
     stored-said n =
-        by-cases (λ m. set (take 32 b) (byte b 37) n ≡ m) (ltb (byte b 37) 32)
-        (λ t. refl)
-        (λ f. set-out (take 32 b) (byte b 37) n (omega (arith, size b valid, ltb-false (byte b 37) 32 f)))
+        by-cases (λ m. set (take 32 b) (byte b 37) n ≡ m) (ltb (byte b 37) _) (λ t. refl)
+        (λ f. set-out (take 32 b) (byte b 37) n (omega (arith, size b valid, ltb-false (byte b 37) _ f)))
 
     -- the ninth is ignored
     upper-eight : withBit b s / 2 % 256 ≡ bits b
