@@ -133,8 +133,10 @@ fn script(random: &mut Random) -> String {
     feed_chip::data_and_cells(&mut script);
     feed_chip::levels(&mut script);
     feed_chip::frames(&mut script);
+    feed_chip::past_the_memory(&mut script);
     feed_chip::wild(random, &mut script);
     feed_calls::limits(&mut script);
+    feed_calls::addresses(&mut script);
     feed_calls::couplings(&mut script);
     feed_calls::streams(&mut script);
     feed_calls::refused_streams(&mut script);

@@ -1,5 +1,5 @@
 // The part of the script that shows what calls refuse: damaged records, and requests at the limits of what is accepted.
-use crate::{changed, record, Bytes, Script, COMMAND, ON, WRITE};
+use crate::{changed, record, Bytes, Script, COMMAND, ON, READ, WRITE};
 use std::collections::BTreeSet;
 
 // Calls that a record answers in one way if it is valid and in another if not: a sample that is refused, one that opens a
@@ -18,7 +18,7 @@ pub fn limits(script: &mut Script) {
     }
     let values: [(usize, &[u8]); 26] = [
         (0, &[15, 16]), (1, &[16]), (31, &[15, 16, 128]), (32, &[0, 14, 16, 18, 30, 254]),
-        (33, &[4, 5, 8, 12, 255]), (37, &[31, 32, 255]), (38, &[3, 4, 255]), (39, &[2, 3, 255]),
+        (33, &[4, 5, 8, 12, 255]), (37, &[63, 64, 255]), (38, &[3, 4, 255]), (39, &[2, 3, 255]),
         (40, &[0, 1, 2, 255]), (41, &[0, 2, 3, 255]), (42, &[0, 1, 2, 255]), (43, &[0, 1, 2, 3, 4, 255]),
         (44, &[0, 1, 2, 3, 4, 5, 255]), (45, &[0, 1, 2, 255]), (46, &[0, 1, 2, 3, 4, 5, 255]),
         (47, &[0, 1, 2, 255]), (48, &[0, 7, 8, 15, 255]), (49, &[0, 1, 2, 255]), (50, &[0, 2, 3, 255]),
@@ -33,6 +33,19 @@ pub fn limits(script: &mut Script) {
     for place in 58..64 {
         for byte in [1, 255] {
             script.capture(&changed(&write, &[(place, byte)]), CALLS);
+        }
+    }
+}
+
+// The address of a read and of a write: below and past the end of the memory, the last, and beyond.
+pub fn addresses(script: &mut Script) {
+    script.words("addresses in read and write frames, and beyond");
+    for frame in [READ, WRITE] {
+        for address in [0, 30, 31, 32, 33, 62, 63, 64, 65, 95, 96, 127, 128, 160, 255] {
+            let held = record(&[ON, frame, &[(37, address), (39, address % 3)]]);
+            script.capture(&held, CALLS);
+            script.lend('p', &held, 32);
+            script.advance(&held, 9);
         }
     }
 }
@@ -56,8 +69,8 @@ pub fn couplings(script: &mut Script) {
             let bytes: Bytes = &[(34, most), (35, value as u8), (36, (value >> 8) as u8)];
             script.capture(&changed(&frame, bytes), CALLS);
         }
-        for place in 37..40 {
-            script.capture(&changed(&frame, &[(place, 1)]), CALLS);
+        for (place, byte) in [(37, 1), (37, 32), (37, 63), (38, 1), (39, 1)] {
+            script.capture(&changed(&frame, &[(place, byte)]), CALLS);
         }
     }
     for count in 0..8 {

@@ -124,8 +124,8 @@ pub fn tone_and_irq(script: &mut Script) {
 pub fn data_and_cells(script: &mut Script) {
     script.words("DATA");
     for state in [READ, WRITE] {
-        for data in 0..3 {
-            script.lend('p', &record(&[state, &[(39, data)]]), 32);
+        for (address, data) in [(31, 0), (31, 1), (31, 2), (32, 0), (63, 1), (63, 2)] {
+            script.lend('p', &record(&[state, &[(37, address), (39, data)]]), 32);
         }
     }
     script.words("the cells");
@@ -146,10 +146,10 @@ pub fn data_and_cells(script: &mut Script) {
 
 // A step from each level of the lines to each, while the chip drives DATA and while it does not.
 pub fn levels(script: &mut Script) {
-    script.words("each level to each, in read and write frames");
-    for (frame, data) in [(READ, 2), (WRITE, 1)] {
+    script.words("each level to each, in read and write frames, at the end of the memory and past it");
+    for (frame, address, data) in [(READ, 31, 2), (WRITE, 31, 1), (READ, 45, 2), (WRITE, 45, 2)] {
         for before in (0..16).step_by(2) {
-            let state = record(&[frame, &[(32, before), (38, 2), (39, data)]]);
+            let state = record(&[frame, &[(32, before), (37, address), (38, 2), (39, data)]]);
             for after in (0..16).step_by(2).chain([before + 1]) {
                 script.capture(&state, &digits(&[after]));
             }
@@ -188,8 +188,13 @@ pub fn levels(script: &mut Script) {
 pub fn frames(script: &mut Script) {
     let whole = [
         "110111111RRRRRRRRR1RR",
+        "110011111RRRRRRRRR1RR",
+        "110101000RRRRR1RR",
         "1010111111011001",
+        "1011111111011001",
         "101011111RRRRR11RR01R0RRRRRR",
+        "101101000RRR11R01RRRRR1RR",
+        "101111111RRRRR11RR01R0RRRRRR",
         "1001010101110010",
         "0001R",
         "0011R",
@@ -210,10 +215,44 @@ pub fn frames(script: &mut Script) {
     for text in ["X1X10X0001R01XRXR", "1X01X00X0101X1X0RX11", "100X0X0000001XR1", "111X1R"] {
         script.capture(&record(&[]), &(open(text) + "t"));
     }
-    script.words("the whole memory, written and read round the end");
-    let nibbles: String = (0..33).map(|i| format!("{:04b}", (i * 11 + 5) % 16)).collect();
-    script.capture(&record(&[]), &closed(&("101011110".to_string() + &nibbles)));
-    script.capture(&record(&[]), &closed(&("110111110".to_string() + &"RRRR".repeat(33))));
+    script.words("all addresses, written, read, and read and written, round the end");
+    let nibbles: Vec<String> = (0..67).map(|i| format!("{:04b}", (i * 11 + i / 16 * 3 + 5) % 16)).collect();
+    for first in ["011110", "111111"] {
+        script.capture(&record(&[]), &closed(&format!("101{first}{}", nibbles.concat())));
+        script.capture(&record(&[]), &closed(&format!("110{first}{}", "RRRR".repeat(67))));
+    }
+    script.capture(&record(&[]), &closed(&format!("101000000RRRR{}", nibbles.join("RRRR"))));
+}
+
+// Frames that begin around the end of the memory and of the addresses, and frames that go on from a record there: at each
+// reading position and, in a write, with each number of unfinished bits.
+pub fn past_the_memory(script: &mut Script) {
+    script.words("frames that begin below, at and past the end of the memory");
+    for first in [29, 31, 32, 33, 47, 62, 63] {
+        for text in [format!("110{first:06b}RRRRRRRRRRRRR"), format!("101{first:06b}110101101011R01RR"), format!("101{first:06b}RR0110RRR1")] {
+            script.capture(&record(&[]), &closed(&text));
+        }
+    }
+    script.words("read frames that go on there");
+    for address in [31, 32, 40, 62, 63] {
+        for position in 0..4 {
+            let held = record(&[READ, &[(37, address), (38, position), (39, (address + position) % 3)]]);
+            for calls in ["a", "ce", "42", "f", "aeaeaeaeae"] {
+                script.capture(&held, calls);
+            }
+        }
+    }
+    script.words("write frames that go on there");
+    for address in [31, 32, 63] {
+        for state in 0..16u8 {
+            let (count, position) = (state / 4, state % 4);
+            let unfinished: Bytes = &[(34, count), (35, [0, 1, 1, 5][count as usize])];
+            let held = record(&[WRITE, unfinished, &[(37, address), (38, position), (39, (address + state) % 3)]]);
+            for calls in ["a", "46", "cecececea", "42", "f"] {
+                script.capture(&held, calls);
+            }
+        }
+    }
 }
 
 // A valid record with random settings and counters.

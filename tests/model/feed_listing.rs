@@ -8,16 +8,19 @@ use crate::{closed, digits, open};
 const EXAMPLES: [&str; 2] = ["fece46ce46464646cecece46ce46f", "fece46ce46464646cececece46ce46f"];
 
 // Frames with strays and clashes in each phase, and with every ID, closed with unfinished bits and without.
-const FRAMES: [&str; 16] = [
+const FRAMES: [&str; 20] = [
     "1", "11", "110", "11011111", "110111111RRRRRRRRR1RR", "X1X10X0001R01XRXR", "10101", "101011111RRRRR11RR01R0RRRRRR", "1X01X00X0101X1X0RX11",
+    "110011111RRRRR1XRRRRR", "1101010001RR", "101101000RRR11R01RRRRR1RR", "1X0111111X1RR01X1RRR0110R11",
     "100X0X0000001XR1", "10010101", "0001R", "0011R", "0101X", "0111R", "111X1R",
 ];
 
-// The whole memory, read as it is at the start, written with nibbles that differ, and read again round the end.
+// The whole memory, read as it is at the start, written with nibbles that differ, and read again round the end of the
+// addresses; then written past its end and round, and read once more.
 fn memory() -> Vec<String> {
-    let nibbles: String = (0..32).map(|i| format!("{:04b}", (i * 11 + 5) % 16)).collect();
+    let nibble = |i| format!("{:04b}", (i * 11 + i / 16 * 3 + 5) % 16);
     let read = |first: &str, count| closed(&format!("110{first}{}", "RRRR".repeat(count)));
-    vec![read("000000", 32), closed(&format!("101000000{nibbles}")), read("011110", 34)]
+    let write = |first: &str, from, to| closed(&format!("101{first}{}", (from..to).map(nibble).collect::<String>()));
+    vec![read("000000", 32), write("000000", 0, 32), read("011110", 68), write("011110", 40, 77), read("111111", 35)]
 }
 
 // Every code in one frame, with the ninth bit as it comes.

@@ -21,6 +21,9 @@ const NO_SOURCE: u8 = 0;
 const TIME_BASE: u8 = 1;
 const FLAG: u8 = 2;
 
+// A frame's addresses go from 0 to 63. Those up to 31 have a nibble of memory, the others have none.
+const ADDRESSES: usize = 64;
+
 // The phases: byte 33.
 const NO_FRAME: u8 = 0;
 const ID: u8 = 1;
@@ -295,7 +298,7 @@ fn read_dead(start: &[u8; 32], history: &[Event], taken: &[Taken]) -> Reading {
 
 // A read frame past its address: the falls since the sixth address bit say all.
 fn read_reading(start: &[u8; 32], history: &[Event], taken: &[Taken]) -> Reading {
-    let first = number(&taken[4..9]) as usize;
+    let first = number(&taken[3..9]) as usize;
     let falls = falls_after(history, taken[8].at);
     let offered = if falls > 0 {
         offer(start, first + (falls - 1) / 4, falls - 1)
@@ -311,7 +314,7 @@ fn read_reading(start: &[u8; 32], history: &[Event], taken: &[Taken]) -> Reading
         phase: READ,
         count: 0,
         value: 0,
-        address: ((first + falls / 4) % 32) as u8,
+        address: ((first + falls / 4) % ADDRESSES) as u8,
         position: (falls % 4) as u8,
         data: shown(history, taken[8].at, false, offered.2),
         memory: *start,
@@ -322,7 +325,7 @@ fn read_reading(start: &[u8; 32], history: &[Event], taken: &[Taken]) -> Reading
 // A write frame past its address: the bits since the sixth address bit make the
 // nibbles, the falls since the newest whole nibble make the reading position.
 fn read_writing(start: &[u8; 32], history: &[Event], taken: &[Taken]) -> Reading {
-    let first = number(&taken[4..9]) as usize;
+    let first = number(&taken[3..9]) as usize;
     let bits = &taken[9..];
     let stored = bits.len() / 4;
     let memory = store(start, first, bits);
@@ -335,7 +338,7 @@ fn read_writing(start: &[u8; 32], history: &[Event], taken: &[Taken]) -> Reading
     let answer = match history.last() {
         Some(Event::Rise(_)) if stored > 0 && bits.len() % 4 == 0 => (
             5,
-            ((first + stored - 1) % 32) as u8,
+            ((first + stored - 1) % ADDRESSES) as u8,
             nibble(&bits[bits.len() - 4..]),
         ),
         Some(Event::Rise(_)) => (4, 0, 0),
@@ -345,7 +348,7 @@ fn read_writing(start: &[u8; 32], history: &[Event], taken: &[Taken]) -> Reading
         phase: WRITE,
         count: (bits.len() % 4) as u8,
         value: number(&bits[4 * stored..]),
-        address: ((first + stored) % 32) as u8,
+        address: ((first + stored) % ADDRESSES) as u8,
         position: (falls % 4) as u8,
         data: shown(history, taken[8].at, true, offered.2),
         memory,
@@ -354,19 +357,23 @@ fn read_writing(start: &[u8; 32], history: &[Event], taken: &[Taken]) -> Reading
 }
 
 // The memory after the whole nibbles among these bits, from a first address on.
+// A nibble at an address without memory is lost.
 fn store(start: &[u8; 32], first: usize, bits: &[Taken]) -> [u8; 32] {
     let mut memory = *start;
     for (index, four) in bits.chunks_exact(4).enumerate() {
-        memory[(first + index) % 32] = nibble(four);
+        if let Some(held) = memory.get_mut((first + index) % ADDRESSES) {
+            *held = nibble(four);
+        }
     }
     memory
 }
 
 // The answer of the RD fall that comes after `before` others: bit `before` mod 4
-// of an address.
+// of an address. Without memory there it is 0.
 fn offer(memory: &[u8; 32], address: usize, before: usize) -> Answer {
-    let address = address % 32;
-    (8, address as u8, (memory[address] >> (before % 4)) & 1)
+    let address = address % ADDRESSES;
+    let held = memory.get(address).copied().unwrap_or(0);
+    (8, address as u8, (held >> (before % 4)) & 1)
 }
 
 // What DATA shows: the newest event after `place` that has a say in it. A fall
@@ -763,7 +770,7 @@ fn in_range(index: usize, byte: u8) -> bool {
         0..=32 => byte <= 15,
         33 => byte <= DEAD,
         34..=36 => true,
-        37 => byte <= 31,
+        37 => byte <= 63,
         38 => byte <= 3,
         39 | 41 | 50 => byte <= 2,
         43 => byte == 2 || byte == 3,

@@ -28,7 +28,7 @@ pub fn frame(random: &mut Random) -> Vec<u8> {
     for i in (0..3).rev() {
         send(&mut samples, id >> i & 1);
     }
-    let length = [0, 3, 6, 10, 14, 24, 40, 90][random.below(8) as usize];
+    let length = [0, 3, 6, 10, 14, 24, 40, 90, 290][random.below(9) as usize];
     let reads = random.below(3) == 0 || id == 6;
     for _ in 0..length {
         if reads && random.below(2) == 0 {

@@ -365,7 +365,7 @@ fn random_record(dice: &mut Dice) -> [u8; 64] {
     record[34] = dice.below([0, 2, 5, 5, 0, 3, 8, 0][phase] + 1) as u8;
     record[35] = dice.below(1 << record[34]) as u8;
     if phase == 4 || phase == 5 {
-        record[37] = dice.below(32) as u8;
+        record[37] = dice.below(64) as u8;
         record[38] = dice.below(4) as u8;
         record[39] = dice.below(3) as u8;
     }
@@ -479,7 +479,7 @@ fn frame_cases(tally: &mut Tally) {
         feed(&mut chip, &[6, 2, 4, 6]),
     );
     tally.same("dead close", vec![(2, 0, 0)], feed(&mut chip, &[15]));
-    // Reading goes from 31 to 0, and a stray rise leaves the offered bit.
+    // Reading goes from 63 to 0, and a stray rise leaves the offered bit.
     let mut memory = [0; 32];
     memory[31] = 8;
     memory[0] = 1;
@@ -492,8 +492,8 @@ fn frame_cases(tally: &mut Tally) {
     );
     let offered = even(&feed(&mut chip, &[10, 14, 10, 14, 10, 14, 10, 14, 10, 14]));
     tally.same(
-        "31 to 0",
-        vec![(8, 31, 0), (8, 31, 0), (8, 31, 0), (8, 31, 1), (8, 0, 1)],
+        "63 to 0",
+        vec![(8, 63, 0), (8, 63, 0), (8, 63, 0), (8, 63, 0), (8, 0, 1)],
         offered,
     );
     tally.same("stray rise", vec![(0, 0, 0), (9, 0, 0)], feed(&mut chip, &[4, 6]));
@@ -599,7 +599,7 @@ fn effect_cases(tally: &mut Tally) {
 fn range_of(index: usize) -> std::ops::RangeInclusive<u8> {
     match index {
         0..=32 => 0..=15,
-        37 => 0..=31,
+        37 => 0..=63,
         38 | 56 => 0..=3,
         39 | 41 | 50 => 0..=2,
         43 => 2..=3,
@@ -641,6 +641,11 @@ fn validity_cases(tally: &mut Tally) {
             let record = with_bytes(writing, &[(33, phase), (index, 1)]);
             tally.same("bytes 37 to 39", phase == 4 || phase == 5, model::valid(&record));
         }
+        for (address, in_range) in [(31, true), (32, true), (63, true), (64, false), (255, false)] {
+            let record = with_bytes(writing, &[(33, phase), (37, address)]);
+            let due = in_range && (phase == 4 || phase == 5);
+            tally.same(&format!("address {address} in phase {phase}"), due, model::valid(&record));
+        }
     }
     for count in 0..=8u8 {
         for value in 0..1024u16 {
@@ -655,24 +660,141 @@ fn validity_cases(tally: &mut Tally) {
 // leave it, and any bit taken releases DATA.
 fn position_cases(tally: &mut Tally) {
     let mut chip = power_on(&[6; 32]).expect("a memory");
-    feed(&mut chip, &write(31, &[0], 29).expect("a write")[..20]);
+    feed(&mut chip, &write(30, &[0], 29).expect("a write")[..20]);
     tally.same(
         "D0, D1",
-        vec![(8, 31, 0), (8, 31, 1)],
+        vec![(8, 30, 0), (8, 30, 1)],
         even(&feed(&mut chip, &[10, 14, 10, 14])),
     );
     tally.same("high", 2, chip.pins().0 / 8);
     feed(&mut chip, &[12, 14]);
     tally.same("bit taken", 0, chip.pins().0 / 8);
-    tally.same("D2", vec![(8, 31, 1), (0, 0, 0)], feed(&mut chip, &[10, 14]));
+    tally.same("D2", vec![(8, 30, 1), (0, 0, 0)], feed(&mut chip, &[10, 14]));
     feed(&mut chip, &[4, 6, 4, 6]);
     tally.same(
         "9 stored",
-        vec![(0, 0, 0), (5, 31, 9)],
+        vec![(0, 0, 0), (5, 30, 9)],
         feed(&mut chip, &[12, 14]),
     );
-    tally.same("D0 of 0", vec![(8, 0, 0), (0, 0, 0)], feed(&mut chip, &[10, 14]));
-    tally.same("D1 of 0", vec![(8, 0, 1), (0, 0, 0)], feed(&mut chip, &[10, 14]));
+    tally.same("D0 of 31", vec![(8, 31, 0), (0, 0, 0)], feed(&mut chip, &[10, 14]));
+    tally.same("D1 of 31", vec![(8, 31, 1), (0, 0, 0)], feed(&mut chip, &[10, 14]));
+}
+
+// The samples of a letter: a bit sent, and R a bit read.
+fn samples_of(letter: char) -> [u8; 2] {
+    match letter {
+        '0' => [4, 6],
+        '1' => [12, 14],
+        _ => [10, 14],
+    }
+}
+
+// Feeds a text and gives the answer of each letter: its other sample is answered 0.
+fn told(chip: &mut Model, text: &str) -> Vec<(u8, u8, u8)> {
+    let answers = |letter| feed(chip, &samples_of(letter)).into_iter().find(|answer| answer.0 != 0);
+    text.chars().map(answers).map(|answer| answer.expect("an edge is answered")).collect()
+}
+
+// Opens a frame on a memory, and sends its ID and its six address bits.
+fn opened(memory: &[u8], head: &str) -> Model {
+    let mut chip = power_on(memory).expect("a memory");
+    feed(&mut chip, &[14]);
+    told(&mut chip, head);
+    chip
+}
+
+// Nibbles as a text, D0 first.
+fn sent_nibbles(nibbles: &[u8]) -> String {
+    let bit = |nibble: u8, place: u8| if nibble >> place & 1 == 1 { '1' } else { '0' };
+    nibbles.iter().flat_map(|&nibble| (0..4).map(move |place| bit(nibble, place))).collect()
+}
+
+// Writes nibbles in a frame and checks where each is answered to lie, and what the memory is then.
+fn written_past(tally: &mut Tally, head: &str, nibbles: &[u8], addresses: &[u8], memory: [u8; 32]) {
+    let mut chip = opened(&[6; 32], head);
+    let stored: Vec<_> = told(&mut chip, &sent_nibbles(nibbles)).into_iter().filter(|answer| answer.0 == 5).collect();
+    let due: Vec<_> = addresses.iter().zip(nibbles).map(|(&address, &nibble)| (5, address, nibble)).collect();
+    tally.same(&format!("stored by {head}"), due, stored);
+    tally.same(&format!("memory after {head}"), memory.to_vec(), chip.record()[..32].to_vec());
+    tally.same(&format!("{head} closed"), vec![(2, 0, 0)], feed(&mut chip, &[15]));
+}
+
+// Writes past address 31: nibbles at 32 to 63 are answered and lost, and after 63 comes 0.
+fn writes_past_cases(tally: &mut Tally) {
+    let sixes = |changes: &[(usize, u8)]| {
+        let mut memory = [6; 32];
+        changes.iter().for_each(|&(address, nibble)| memory[address] = nibble);
+        memory
+    };
+    written_past(tally, "101011110", &[1, 2, 3, 4, 5], &[30, 31, 32, 33, 34], sixes(&[(30, 1), (31, 2)]));
+    written_past(tally, "101100001", &[9, 15], &[33, 34], sixes(&[]));
+    written_past(tally, "101111111", &[8, 7, 14], &[63, 0, 1], sixes(&[(0, 7), (1, 14)]));
+    // 70 nibbles from 0 on: 32 tens, 32 twelves that are lost, and 1 to 6 over the first tens.
+    let nibbles = [vec![10; 32], vec![12; 32], vec![1, 2, 3, 4, 5, 6]].concat();
+    let addresses: Vec<u8> = (0..64).chain(0..6).collect();
+    let mut memory = [10; 32];
+    memory[..6].copy_from_slice(&[1, 2, 3, 4, 5, 6]);
+    written_past(tally, "101000000", &nibbles, &addresses, memory);
+}
+
+// Reads nibbles in a frame: each bit is offered from its address, D0 first, and driven.
+fn read_past(tally: &mut Tally, memory: &[u8], head: &str, nibbles: &[(u8, u8)]) {
+    let mut chip = opened(memory, head);
+    for &(address, nibble) in nibbles {
+        for place in 0..4 {
+            let bit = nibble >> place & 1;
+            tally.same(&format!("offered by {head}"), vec![(8, address, bit)], told(&mut chip, "R"));
+            tally.same(&format!("driven by {head}"), 1 + bit as u32, chip.pins().0 / 8);
+        }
+    }
+}
+
+// Reads past address 31: zeros at 32 to 63, and then address 0 again. Address a holds 1 + a mod 15, so no nibble of the
+// memory is 0.
+fn reads_past_cases(tally: &mut Tally) {
+    let memory: Vec<u8> = (0..32).map(|address| 1 + address % 15).collect();
+    let zeros: Vec<(u8, u8)> = (32..64).map(|address| (address, 0)).collect();
+    let from_30 = [&[(30, 1), (31, 2)], &zeros[..], &[(0, 1), (1, 2), (2, 3), (3, 4), (4, 5), (5, 6)]].concat();
+    tally.same("nibbles from 30", 40, from_30.len());
+    read_past(tally, &memory, "110011110", &from_30);
+    read_past(tally, &memory, "110100000", &[&zeros[..], &[(0, 1), (1, 2)]].concat());
+    read_past(tally, &memory, "110111111", &[(63, 0), (0, 1), (1, 2)]);
+    let mut chip = opened(&memory, "110101000");
+    tally.same("stray at 40", vec![(8, 40, 0), (9, 0, 0), (8, 40, 0)], told(&mut chip, "R1R"));
+    tally.same("at 40, D2, low", [40, 2, 1].to_vec(), chip.record()[37..40].to_vec());
+}
+
+// RD falls in a write frame at 40 cycle over zeros and never step; a bit taken releases DATA and leaves the position, and a
+// whole nibble sets it to D0. From 31 the frame goes on to 32.
+fn modify_past_cases(tally: &mut Tally) {
+    let mut chip = opened(&[15; 32], "101101000");
+    tally.same("five zeros of 40", vec![(8, 40, 0); 5], told(&mut chip, "RRRRR"));
+    tally.same("at 40, D1, low", vec![40, 1, 1], chip.record()[37..40].to_vec());
+    tally.same("taken at 40", vec![(4, 0, 0)], told(&mut chip, "1"));
+    tally.same("at 40, D1, released", vec![40, 1, 0], chip.record()[37..40].to_vec());
+    tally.same("D1 of 40", vec![(8, 40, 0)], told(&mut chip, "R"));
+    tally.same("13 at 40", vec![(4, 0, 0), (4, 0, 0), (5, 40, 13)], told(&mut chip, "011"));
+    tally.same("at 41, D0, released", vec![41, 0, 0], chip.record()[37..40].to_vec());
+    tally.same("two bits at 41", vec![(4, 0, 0); 2], told(&mut chip, "11"));
+    tally.same("cut short at 41", vec![(3, 0, 0)], feed(&mut chip, &[15]));
+    tally.same("nothing stored", vec![15; 32], chip.record()[..32].to_vec());
+    let mut chip = opened(&[6; 32], "101011111");
+    tally.same("D0, D1 of 31", vec![(8, 31, 0), (8, 31, 1)], told(&mut chip, "RR"));
+    tally.same("9 at 31", (5, 31, 9), told(&mut chip, "1001")[3]);
+    tally.same("D0, D1 of 32", vec![(8, 32, 0); 2], told(&mut chip, "RR"));
+}
+
+// Frames that go on from a record with an address past the memory.
+fn records_past_cases(tally: &mut Tally) {
+    let base = with_bytes(power_on(&[5; 32]).expect("a memory").record(), &[(32, 14)]);
+    let held = |bytes: &[(usize, u8)]| Model::from_record(&with_bytes(base, bytes)).expect("a valid record");
+    let mut chip = held(&[(33, 4), (37, 63), (38, 3)]);
+    tally.same("D3 of 63, D0 of 0", vec![(8, 63, 0), (8, 0, 1)], told(&mut chip, "RR"));
+    let mut chip = held(&[(33, 4), (37, 31), (38, 3), (39, 2)]);
+    tally.same("D3 of 31, D0 of 32", vec![(8, 31, 0), (8, 32, 0)], told(&mut chip, "RR"));
+    let mut chip = held(&[(33, 5), (37, 63), (34, 3), (35, 3), (38, 2), (39, 1)]);
+    tally.same("6 at 63, D0 of 0", vec![(5, 63, 6), (8, 0, 1)], told(&mut chip, "0R"));
+    tally.same("5 stays", vec![5; 32], chip.record()[..32].to_vec());
 }
 
 // Runs every group.
@@ -696,6 +818,10 @@ fn main() {
         effect_cases,
         validity_cases,
         position_cases,
+        writes_past_cases,
+        reads_past_cases,
+        modify_past_cases,
+        records_past_cases,
     ];
     for group in groups.iter() {
         group(&mut tally);

@@ -26,7 +26,11 @@ fn note_step(before: &[u8], returned: u32, after: &[u8], seen: &mut Counts) {
     match number {
         2 | 3 => note(seen, format!("closed in phase {phase} with {} bits", before[34])),
         6 | 7 => note(seen, format!("code {first:02x}, system {}", before[40])),
-        8 => note(seen, format!("phase {phase} offers level {}", after[39])),
+        5 => note(seen, format!("stored at {first}")),
+        8 => {
+            note(seen, format!("phase {phase} offers level {}", after[39]));
+            note(seen, format!("phase {phase} offers of address {first}"));
+        }
         9 | 11 => note(seen, format!("answer {number} in phase {phase}")),
         _ => {}
     }
@@ -65,6 +69,10 @@ fn required() -> Vec<String> {
     all.extend((1..=7).map(|phase| format!("answer 11 in phase {phase}")));
     for (phase, level) in [(4, 1), (4, 2), (5, 1), (5, 2)] {
         all.push(format!("phase {phase} offers level {level}"));
+    }
+    all.extend((0..64).map(|address| format!("stored at {address}")));
+    for phase in [4, 5] {
+        all.extend((0..64).map(|address| format!("phase {phase} offers of address {address}")));
     }
     let refusals: [(&str, &[u8]); 6] =
         [("w", &[21, 22, 23, 25, 30]), ("r", &[21, 22, 25, 30]), ("c", &[21, 24, 25, 31]), ("d", &[25, 26, 27]), ("o", &[23, 25, 29]), ("p", &[25, 28])];
