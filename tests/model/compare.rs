@@ -438,7 +438,7 @@ fn record_in(dice: &mut Dice, phase: u8) -> [u8; 64] {
     record[34] = dice.byte(most_bits(phase) as usize + 1);
     record[35] = dice.byte(1 << record[34]);
     if phase == 4 || phase == 5 {
-        record[37] = dice.byte(32);
+        record[37] = dice.byte(64);
         record[38] = dice.byte(4);
         record[39] = dice.byte(3);
     }
@@ -502,6 +502,11 @@ fn sent(bit: u8) -> [u8; 2] {
     [4 + 8 * bit, 6 + 8 * bit]
 }
 
+// The samples that send a number's bits, first bit highest.
+fn sent_number(width: u8, number: u16) -> Vec<u8> {
+    (0..width).rev().flat_map(|place| sent((number >> place & 1) as u8)).collect()
+}
+
 // Feeds samples to a record and gives the last answer and the record.
 fn fed(tally: &mut Tally, record: &[u8], samples: &[u8]) -> Outcome {
     let mut last = (0, record.to_vec());
@@ -522,6 +527,7 @@ fn cases_of_the_rules(tally: &mut Tally) {
     });
     clear_cases(tally, &chip);
     tick_cases(tally, &chip);
+    past_cases(tally, &chip);
 }
 
 // Cases (a) and (b).
@@ -630,6 +636,32 @@ fn tick_cases(tally: &mut Tally, chip: &[u8]) {
     }
 }
 
+// A write frame from 31 and a read frame from 63, with memory zero but for address 0: what the frame's last sample is
+// answered, and what the memory holds then at 0 and 31.
+fn past_cases(tally: &mut Tally, chip: &[u8]) {
+    let mut held = chip.to_vec();
+    held[0] = 6;
+    let (write, read) = (sent_number(9, 5 * 64 + 31), sent_number(9, 6 * 64 + 63));
+    let nine = sent_number(4, 9);
+    let round: Vec<u8> = nine.repeat(34);
+    for (head, rest, due, at_0, at_31) in [
+        (&write, &nine[..], 5 + 256 * 31 + 65_536 * 9, 6, 9),
+        (&write, &nine.repeat(2), 5 + 256 * 32 + 65_536 * 9, 6, 9),
+        (&write, &nine.repeat(33), 5 + 256 * 63 + 65_536 * 9, 6, 9),
+        (&write, &round, 5 + 65_536 * 9, 9, 9),
+        (&write, &[&nine[..], &[10]].concat(), 8 + 256 * 32, 6, 9),
+        (&read, &[10], 8 + 256 * 63, 6, 0),
+        (&read, &[10, 14, 10, 14, 10, 14, 10, 14, 10, 14, 10], 8 + 65_536, 6, 0),
+    ] {
+        let samples = [&[14], &head[..], rest].concat();
+        let (answer, after) = fed(tally, &held, &samples);
+        let frame = || format!("last step of record={} samples={}", hex(&held), hex(&samples));
+        tally.equal(due, answer, &frame);
+        tally.equal(at_0, after[0] as u32, &|| format!("address 0 after the {}", frame()));
+        tally.equal(at_31, after[31] as u32, &|| format!("address 31 after the {}", frame()));
+    }
+}
+
 // Whether IRQ is low after ticks.
 fn irq_after(record: &[u8], ticks: u16) -> u32 {
     lent::pins(&lent::advance(record, ticks).1, 32).0 & 1
@@ -670,10 +702,7 @@ fn codes(tally: &mut Tally) {
 
 // Sends a nine-bit code twice into a command frame; 1 if it was passed over.
 fn nine_bits(tally: &mut Tally, frame: &[u8], code: u32) -> u32 {
-    let samples: Vec<u8> = (0..9)
-        .rev()
-        .flat_map(|place| sent((code >> place & 1) as u8).to_vec())
-        .collect();
+    let samples = sent_number(9, code as u16);
     let first = fed(tally, frame, &samples);
     let sends = || format!("last step of record={} samples={}", hex(frame), hex(&samples));
     tally.equal(code >> 1, first.0 >> 8, &|| {
@@ -684,7 +713,7 @@ fn nine_bits(tally: &mut Tally, frame: &[u8], code: u32) -> u32 {
     (second.0 & 255 == 7) as u32
 }
 
-// Every sample 0 to 255 from records of every phase, count, value, position and
+// Every sample from records of every phase, count, value, address, position and
 // DATA, with every state of the lines that the phase allows.
 fn every_sample(tally: &mut Tally) {
     for phase in 0..8 {
@@ -696,15 +725,12 @@ fn every_sample(tally: &mut Tally) {
     }
 }
 
-// Every sample from records with a phase, a count and a value.
+// Every sample from records with a phase, a count and a value: at every address, and at some of them every sample that is
+// refused too.
 fn from_values(tally: &mut Tally, phase: u8, count: u8, value: u8) {
-    let addresses: &[u8] = match phase {
-        4 => &[0, 1, 7, 8, 15, 16, 23, 30, 31],
-        5 => &[0, 1, 15, 30, 31],
-        _ => &[0],
-    };
     let in_data = phase == 4 || phase == 5;
-    for &address in addresses {
+    for address in 0..if in_data { 64 } else { 1 } {
+        let most = if [0, 1, 15, 30, 31, 32, 47, 63].contains(&address) { 255 } else { 16 };
         for place in 0..if in_data { 12 } else { 1 } {
             let mut record = record_in(&mut tally.dice, phase);
             record[34] = count;
@@ -712,20 +738,51 @@ fn from_values(tally: &mut Tally, phase: u8, count: u8, value: u8) {
             record[37] = address;
             record[38] = place / 3;
             record[39] = place % 3;
-            from_lines(tally, record);
+            from_lines(tally, record, most);
         }
     }
 }
 
-// Every sample from a record with each state of its lines.
-fn from_lines(tally: &mut Tally, mut record: [u8; 64]) {
+// Every sample up to one from a record with each state of its lines.
+fn from_lines(tally: &mut Tally, mut record: [u8; 64], most: u8) {
     let cs = (record[33] == 0) as u8;
     for others in 0..8 {
         record[32] = 2 * others + cs;
-        for sample in 0..=255 {
+        for sample in 0..=most {
             tally.step(&record, sample);
         }
     }
+}
+
+// Frames from every first address, in which nibbles are read, written, or both, so many that they come round to it and go on.
+fn long_frames(tally: &mut Tally) {
+    for first in 0..64 {
+        for (reads, writes) in [(true, false), (false, true), (true, true)] {
+            let mut record = record_in(&mut tally.dice, 0).to_vec();
+            let mut chip = Model::from_record(&record).expect("a valid record");
+            for sample in long_frame(&mut tally.dice, first, reads, writes) {
+                record = walk_sample(tally, &mut chip, record, sample);
+            }
+            walk_pins(tally, &chip, &record);
+        }
+    }
+}
+
+// The samples of such a frame. Where it does both, up to five bits are read before each nibble.
+fn long_frame(dice: &mut Dice, first: u16, reads: bool, writes: bool) -> Vec<u8> {
+    let mut samples = vec![15, 14];
+    samples.extend(sent_number(9, if writes { 5 * 64 } else { 6 * 64 } + first));
+    for _ in 0..70 {
+        if reads {
+            let bits = if writes { dice.below(6) } else { 4 };
+            samples.extend([10, 14].repeat(bits));
+        }
+        if writes {
+            samples.extend(sent_number(4, dice.below(16) as u16));
+        }
+    }
+    samples.push(15);
+    samples
 }
 
 // Writes and reads of every first and count from 0 to 40, huge ones, long
@@ -912,8 +969,8 @@ fn record_bytes(tally: &mut Tally) {
     }
 }
 
-// Every unfinished count with every value's low byte and some high bytes, and
-// every phase with every state of the lines and of bytes 37 to 39.
+// Every unfinished count with every value's low byte and some high bytes, every
+// phase with every state of the lines and of bytes 37 to 39, and every address.
 fn record_pairs(tally: &mut Tally) {
     for phase in 0..8 {
         let mut record = record_in(&mut tally.dice, phase);
@@ -929,12 +986,20 @@ fn record_pairs(tally: &mut Tally) {
         }
         let mut record = record_in(&mut tally.dice, phase);
         for lines in 0..16 {
-            for place in 0..120 {
+            for place in 0..168 {
                 record[32] = lines;
-                record[37] = [0, 1, 31, 32, 255][place % 5];
-                record[38] = [0, 1, 2, 3, 4, 255][place / 5 % 6];
-                record[39] = (place / 30) as u8;
+                record[37] = [0, 1, 31, 32, 63, 64, 255][place % 7];
+                record[38] = [0, 1, 2, 3, 4, 255][place / 7 % 6];
+                record[39] = (place / 42) as u8;
                 tally.advance(&record, 0);
+            }
+        }
+        for _ in 0..16 {
+            let mut record = record_in(&mut tally.dice, phase);
+            for address in 0..=255 {
+                record[37] = address;
+                three_calls(tally, &record);
+                tally.step(&record, 16);
             }
         }
     }
@@ -1135,7 +1200,7 @@ impl Plan {
     // A read frame, sometimes with stray WR rises.
     fn read_frame(&mut self, dice: &mut Dice) {
         self.head(dice, 6);
-        for _ in 0..dice.pick(&[3, 9, 40, 160]) {
+        for _ in 0..dice.pick(&[3, 9, 40, 160, 300]) {
             if dice.once_in(20) {
                 self.send(dice, 1);
             }
@@ -1146,7 +1211,7 @@ impl Plan {
     // A write frame, with bits read in between.
     fn write_frame(&mut self, dice: &mut Dice) {
         self.head(dice, 5);
-        for _ in 0..dice.pick(&[2, 6, 20, 160]) {
+        for _ in 0..dice.pick(&[2, 6, 20, 160, 300]) {
             if dice.once_in(3) {
                 for _ in 0..dice.below(7) {
                     self.read(dice);
@@ -1523,10 +1588,11 @@ fn main() {
     };
     println!("seed {}, samples {}", asked.seed, asked.samples);
     let walk = |tally: &mut Tally| walks(tally, asked.samples);
-    let checks: [(&str, &dyn Fn(&mut Tally)); 15] = [
+    let checks: [(&str, &dyn Fn(&mut Tally)); 16] = [
         ("cases of the rules", &cases_of_the_rules),
         ("codes", &codes),
         ("every sample", &every_sample),
+        ("long frames", &long_frames),
         ("spans", &spans),
         ("commands asked", &commands_asked),
         ("refusal orders", &refusal_orders),
