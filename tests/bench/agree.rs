@@ -55,8 +55,35 @@ fn ticked(record: &[u8], sample: u8, ticks: u16) -> Vec<u8> {
     later
 }
 
-// Random calls of the host's side, at and beyond their limits; what they stream, with a sample in 50 another one, is stepped;
-// now and then ticks pass and every call is made, and made again with a byte of the record replaced.
+// Steps through samples, one in 50 replaced by another; now and then ticks pass and every call is made, and made again with a
+// byte of the record replaced. What the samples and the ticks made of the record.
+fn streamed(random: &mut Random, mut record: Vec<u8>, samples: &[u8]) -> Vec<u8> {
+    for &sample in samples {
+        let sample = if random.below(50) == 0 { random.below(17) as u8 } else { sample };
+        record = stepped(&record, sample);
+        if random.below(40) == 0 {
+            let ticks = random.below(4000) as u16;
+            record = ticked(&record, sample, ticks);
+            let mut broken = record.clone();
+            broken[random.below(64) as usize] = random.below(if ticks % 2 == 0 { 20 } else { 256 }) as u8;
+            ticked(&broken[..64 - random.below(9) as usize / 8], sample, ticks);
+        }
+    }
+    record
+}
+
+// A read or write frame such as the host's side does not make: from any of the 64 addresses, and so long that it may come round.
+fn long_frame(random: &mut Random) -> Vec<u8> {
+    let mut samples = vec![15, 14];
+    let head = (5 + random.below(2)) * 64 + random.below(64);
+    let bits = random.below(320);
+    let reads = random.below(3);
+    let letters = (0..9).rev().map(|place| head >> place & 1).chain((0..bits).map(|_| random.below(2 + reads)));
+    samples.extend(letters.flat_map(|letter| [[4, 6], [12, 14], [10, 14]][letter.min(2) as usize]));
+    samples
+}
+
+// Random calls of the host's side, at and beyond their limits, whose streams are stepped through, and long frames.
 pub fn agree_calls(seed: u64) {
     let random = &mut Random(seed);
     let mut record = power_on().to_vec();
@@ -78,17 +105,11 @@ pub fn agree_calls(seed: u64) {
         ];
         for (answer, bytes) in &made[..4] {
             let count = if answer >> 31 == 0 { *answer as usize } else { 0 };
-            for &sample in &bytes[..count] {
-                let sample = if random.below(50) == 0 { random.below(17) as u8 } else { sample };
-                record = stepped(&record, sample);
-                if random.below(40) == 0 {
-                    let ticks = random.below(4000) as u16;
-                    record = ticked(&record, sample, ticks);
-                    let mut broken = record.clone();
-                    broken[random.below(64) as usize] = random.below(if ticks % 2 == 0 { 20 } else { 256 }) as u8;
-                    ticked(&broken[..64 - random.below(9) as usize / 8], sample, ticks);
-                }
-            }
+            record = streamed(random, record, &bytes[..count]);
+        }
+        if random.below(4) == 0 {
+            let frame = long_frame(random);
+            record = streamed(random, record, &frame);
         }
     }
 }

@@ -13,6 +13,9 @@ enum { NO_FRAME, IDENT, READ_ADDRESS, WRITE_ADDRESS, READING, WRITING, COMMAND, 
 enum { XTAL, RC, EXT };
 enum { NO_SOURCE, TIME_BASE, FLAG };
 
+/* A frame's addresses. The memory has the first 32 of them, HT1621_ADDRESSES. */
+enum { FRAME_ADDRESSES = 64 };
+
 /* ---- the record ---- */
 
 static unsigned value_in(const uint8_t *r) { return r[HT1621_AT_VALUE] + 256u * r[HT1621_AT_VALUE + 1]; }
@@ -22,7 +25,7 @@ static int valid(const uint8_t *r, size_t bytes)
     static const uint8_t most[HT1621_RECORD_BYTES] = {
         15, 15, 15, 15, 15, 15, 15, 15, 15, 15, 15, 15, 15, 15, 15, 15, /* memory */
         15, 15, 15, 15, 15, 15, 15, 15, 15, 15, 15, 15, 15, 15, 15, 15,
-        15, 7, 8, 255, 255, 31, 3, 2,                                   /* lines to DATA */
+        15, 7, 8, 255, 255, FRAME_ADDRESSES - 1, 3, 2,                  /* lines to DATA */
         1, 2, 1, 3, 4, 1, 4, 1,                                         /* system to the IRQ output */
         7, 1, 2, 1, 7, 15, 127, 255,                                    /* r to b */
         3, 1, 0, 0, 0, 0, 0, 0,
@@ -142,8 +145,9 @@ static uint32_t store(uint8_t *r, unsigned value)
     unsigned address = r[HT1621_AT_ADDRESS];
     unsigned nibble = (value >> 3 & 1) | (value >> 1 & 2) | (value << 1 & 4) | (value << 3 & 8); /* D0 came first */
 
-    r[address] = nibble;
-    r[HT1621_AT_ADDRESS] = (address + 1) % HT1621_ADDRESSES;
+    if (address < HT1621_ADDRESSES)
+        r[address] = nibble;
+    r[HT1621_AT_ADDRESS] = (address + 1) % FRAME_ADDRESSES;
     r[HT1621_AT_POSITION] = 0;
     return answer(HT1621_NIBBLE_STORED, address, nibble);
 }
@@ -167,7 +171,7 @@ static uint32_t take_bit(uint8_t *r, unsigned bit)
     case COMMAND: return obey(r, value >> 1);
     }
     r[HT1621_AT_PHASE] = phase == READ_ADDRESS ? READING : WRITING;
-    r[HT1621_AT_ADDRESS] = value % HT1621_ADDRESSES;
+    r[HT1621_AT_ADDRESS] = value;
     return HT1621_BIT_TAKEN;
 }
 
@@ -177,11 +181,11 @@ static uint32_t offer_bit(uint8_t *r)
 
     if (r[HT1621_AT_PHASE] != READING && r[HT1621_AT_PHASE] != WRITING)
         return HT1621_STRAY_EDGE;
-    bit = r[address] >> position & 1;
+    bit = address < HT1621_ADDRESSES ? r[address] >> position & 1 : 0;
     r[HT1621_AT_DATA] = 1 + bit;
     r[HT1621_AT_POSITION] = (position + 1) % 4;
     if (position == 3 && r[HT1621_AT_PHASE] == READING)
-        r[HT1621_AT_ADDRESS] = (address + 1) % HT1621_ADDRESSES;
+        r[HT1621_AT_ADDRESS] = (address + 1) % FRAME_ADDRESSES;
     return answer(HT1621_BIT_OFFERED, address, bit);
 }
 

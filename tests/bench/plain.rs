@@ -29,11 +29,15 @@ const B: usize = 55;
 const W: usize = 56;
 const TEST: usize = 57;
 
+// A frame's addresses, and those of them that the memory has.
+const ADDRESSES: u8 = 64;
+const HELD: u8 = 32;
+
 // ---- the record ----
 
 const MOST: Record = [
     15, 15, 15, 15, 15, 15, 15, 15, 15, 15, 15, 15, 15, 15, 15, 15, 15, 15, 15, 15, 15, 15, 15, 15, 15, 15, 15, 15, 15,
-    15, 15, 15, 15, 7, 8, 255, 255, 31, 3, 2, 1, 2, 1, 3, 4, 1, 4, 1, 7, 1, 2, 1, 7, 15, 127, 255, 3, 1, 0, 0, 0, 0, 0,
+    15, 15, 15, 15, 7, 8, 255, 255, 63, 3, 2, 1, 2, 1, 3, 4, 1, 4, 1, 7, 1, 2, 1, 7, 15, 127, 255, 3, 1, 0, 0, 0, 0, 0,
     0,
 ];
 
@@ -121,10 +125,12 @@ fn identify(r: &mut Record, id: u16) -> u32 {
 }
 
 fn store(r: &mut Record, value: u16) -> u32 {
-    let address = r[ADDRESS] % 32;
+    let address = r[ADDRESS] % ADDRESSES;
     let nibble = (value as u8).reverse_bits() >> 4; // D0 came first
-    r[address as usize] = nibble;
-    r[ADDRESS] = (address + 1) % 32;
+    if address < HELD {
+        r[address as usize] = nibble;
+    }
+    r[ADDRESS] = (address + 1) % ADDRESSES;
     r[POSITION] = 0;
     answer(5, address, nibble)
 }
@@ -150,7 +156,7 @@ fn take_bit(r: &mut Record, bit: u16) -> u32 {
         6 => obey(r, (value / 2) as u8),
         _ => {
             r[PHASE] = phase + 2;
-            r[ADDRESS] = (value % 32) as u8;
+            r[ADDRESS] = value as u8;
             4
         }
     }
@@ -160,12 +166,12 @@ fn offer_bit(r: &mut Record) -> u32 {
     if !matches!(r[PHASE], 4 | 5) {
         return 9;
     }
-    let (address, position) = (r[ADDRESS] % 32, r[POSITION] % 4);
-    let bit = r[address as usize] >> position & 1;
+    let (address, position) = (r[ADDRESS] % ADDRESSES, r[POSITION] % 4);
+    let bit = if address < HELD { r[address as usize] >> position & 1 } else { 0 };
     r[DATA] = 1 + bit;
     r[POSITION] = (position + 1) % 4;
     if r[PHASE] == 4 && position == 3 {
-        r[ADDRESS] = (address + 1) % 32;
+        r[ADDRESS] = (address + 1) % ADDRESSES;
     }
     answer(8, address, bit)
 }
