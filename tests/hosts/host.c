@@ -1,6 +1,7 @@
 /* A host in C over the calls, held to docs/RULES.md: the worked stream, the cases on both sides, every damaged record, every
-   order of refusals that a length can show, buffers between guard bytes, and writes stopped at every sample. What is expected is
-   written here from the rules; nothing is taken from the code under test. Exits with 1 at the first fault. */
+   order of refusals that a length can show, buffers between guard bytes, frames that go past the memory, and writes stopped at
+   every sample. What is expected is written here from the rules; nothing is taken from the code under test. Exits with 1 at
+   the first fault. */
 #include <stdio.h>
 #include <stdlib.h>
 #include <string.h>
@@ -67,7 +68,7 @@ static int intact(struct lent l, size_t written)
 }
 
 /* Of the bytes after the memory: the most that each may be, but for what goes by phase. */
-static const uint8_t most[32] = {15, 7, 8, 255, 255, 31, 3, 2, 1, 2, 1, 3, 4, 1, 4, 1,
+static const uint8_t most[32] = {15, 7, 8, 255, 255, 63, 3, 2, 1, 2, 1, 3, 4, 1, 4, 1,
                                  7, 1, 2, 1, 7, 15, 127, 255, 3, 1, 0, 0, 0, 0, 0, 0};
 
 static int valid(const uint8_t *r)
@@ -420,6 +421,98 @@ static void glass(void)
     }
 }
 
+/* A bit sent as the streams send it, and a bit read: what the sample with the edge returns. */
+static uint32_t bit_sent(uint8_t *chip, unsigned bit)
+{
+    CHECK(step(chip, HT1621_RECORD_BYTES, (uint8_t)(4 + 8 * bit)) == HT1621_NOTHING);
+    return step(chip, HT1621_RECORD_BYTES, (uint8_t)(6 + 8 * bit));
+}
+
+static uint32_t bit_read(uint8_t *chip)
+{
+    uint32_t returned = step(chip, HT1621_RECORD_BYTES, 10);
+    CHECK(step(chip, HT1621_RECORD_BYTES, 14) == HT1621_NOTHING);
+    return returned;
+}
+
+/* What the last of a nibble's four bits returns. */
+static uint32_t nibble_sent(uint8_t *chip, unsigned nibble)
+{
+    for (int place = 0; place < 3; place++)
+        CHECK(bit_sent(chip, nibble >> place & 1) == HT1621_BIT_TAKEN);
+    return bit_sent(chip, nibble >> 3);
+}
+
+/* A frame of the host's own, with an ID of three bits and a first address of six. */
+static void open_frame(uint8_t *chip, unsigned id, unsigned first)
+{
+    CHECK(step(chip, HT1621_RECORD_BYTES, 14) == HT1621_FRAME_OPENED);
+    for (int place = 8; place >= 0; place--)
+        CHECK(bit_sent(chip, (64 * id + first) >> place & 1) == HT1621_BIT_TAKEN);
+}
+
+/* A write from 30 on: two nibbles are stored, 32 are answered and lie nowhere, and the next two are stored at 0 and 1. */
+static void write_past_the_memory(uint8_t *chip)
+{
+    open_frame(chip, 5, 30);
+    CHECK(nibble_sent(chip, 9) == 5 + 256 * 30 + 65536 * 9);
+    CHECK(nibble_sent(chip, 1) == 5 + 256 * 31 + 65536 * 1);
+    for (unsigned address = 32; address < 64; address++)
+        CHECK(nibble_sent(chip, 15) == 5 + 256 * address + 65536 * 15);
+    CHECK(nibble_sent(chip, 2) == 5 + 256 * 0 + 65536 * 2);
+    CHECK(nibble_sent(chip, 3) == 5 + 256 * 1 + 65536 * 3);
+    CHECK(step(chip, HT1621_RECORD_BYTES, 15) == HT1621_FRAME_CLOSED);
+    CHECK(chip[0] == 2 && chip[1] == 3 && chip[30] == 9 && chip[31] == 1);
+    for (size_t address = 2; address < 30; address++)
+        CHECK(chip[address] == 6);
+}
+
+/* A read of that from 30 on: 9 and 1, D0 first, then 128 zeros that the chip drives, and then the 2 of address 0. */
+static void read_past_the_memory(uint8_t *chip)
+{
+    static const uint8_t bits_30[4] = {1, 0, 0, 1}, bits_31[4] = {1, 0, 0, 0}, bits_0[4] = {0, 1, 0, 0};
+    uint8_t cells[HT1621_ADDRESSES];
+    open_frame(chip, 6, 30);
+    for (size_t place = 0; place < 4; place++)
+        CHECK(bit_read(chip) == 8 + 256 * 30 + 65536u * bits_30[place]);
+    for (size_t place = 0; place < 4; place++)
+        CHECK(bit_read(chip) == 8 + 256 * 31 + 65536u * bits_31[place]);
+    for (unsigned i = 0; i < 128; i++) {
+        CHECK(bit_read(chip) == 8 + 256 * (32 + i / 4));
+        CHECK(HT1621_PINS_DATA(pins(chip, HT1621_RECORD_BYTES, cells, sizeof cells)) == 1);
+    }
+    for (size_t place = 0; place < 4; place++)
+        CHECK(bit_read(chip) == 8 + 256 * 0 + 65536u * bits_0[place]);
+    CHECK(step(chip, HT1621_RECORD_BYTES, 15) == HT1621_FRAME_CLOSED);
+}
+
+/* Reads in a write frame at 40 are of zeros, over and over; the nibble sent there lies nowhere, and bits left over are cut. */
+static void modify_past_the_memory(uint8_t *chip)
+{
+    uint8_t before[HT1621_ADDRESSES];
+    memcpy(before, chip, sizeof before);
+    open_frame(chip, 5, 40);
+    for (int i = 0; i < 5; i++)
+        CHECK(bit_read(chip) == 8 + 256 * 40);
+    CHECK(chip[HT1621_AT_ADDRESS] == 40 && chip[HT1621_AT_POSITION] == 1 && chip[HT1621_AT_DATA] == 1);
+    CHECK(nibble_sent(chip, 13) == 5 + 256 * 40 + 65536 * 13);
+    CHECK(chip[HT1621_AT_ADDRESS] == 41 && chip[HT1621_AT_POSITION] == 0 && chip[HT1621_AT_DATA] == 0);
+    CHECK(bit_sent(chip, 1) == HT1621_BIT_TAKEN);
+    CHECK(step(chip, HT1621_RECORD_BYTES, 15) == HT1621_FRAME_CUT);
+    CHECK(memcmp(chip, before, sizeof before) == 0);
+}
+
+/* Frames that go past the memory, on a chip whose nibbles are all 6 at first. */
+static void past_the_memory(void)
+{
+    uint8_t memory[HT1621_ADDRESSES], chip[HT1621_RECORD_BYTES];
+    memset(memory, 6, sizeof memory);
+    powered(chip, memory);
+    write_past_the_memory(chip);
+    read_past_the_memory(chip);
+    modify_past_the_memory(chip);
+}
+
 /* A write stopped after every number of its samples with ticks between: new values in front, old ones behind, settings and
    counters as a twin has them that gets the ticks alone; then resent. */
 static void interrupted(void)
@@ -464,6 +557,7 @@ int main(void)
     cases();
     time_out();
     glass();
+    past_the_memory();
     interrupted();
     printf("host.c: %lu facts of the rules hold of the linked libraries\n", checks);
     return 0;

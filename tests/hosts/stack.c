@@ -35,6 +35,7 @@ static void step_through(const uint8_t *samples, uint32_t count)
 }
 
 static uint8_t write_stream[ROOM], read_stream[ROOM], command_stream[ROOM];
+static uint8_t write_past[ROOM], read_past[ROOM]; /* with A5 set: past the memory */
 static uint32_t written, reading, commanding;
 static const uint8_t zeros[4 * HT1621_ADDRESSES];
 static const uint8_t commands[] = {
@@ -44,6 +45,8 @@ static void all_steps(void)
 {
     step_through(write_stream, written);
     step_through(read_stream, reading);
+    step_through(write_past, written);
+    step_through(read_past, reading);
     step_through(command_stream, commanding);
     ht1621_step(record, sizeof record, 16);
     ht1621_step(record, 1, 0);
@@ -104,6 +107,10 @@ int main(void)
                  {"ht1621_write", all_writes}, {"ht1621_read", all_reads}, {"ht1621_commands", all_commands}, {"ht1621_decode", all_decodes}};
     written = ht1621_write(0, zeros, HT1621_ADDRESSES, write_stream, sizeof write_stream);
     reading = ht1621_read(0, HT1621_ADDRESSES, read_stream, sizeof read_stream);
+    memcpy(write_past, write_stream, sizeof write_past);
+    memcpy(read_past, read_stream, sizeof read_past);
+    write_past[8] = read_past[8] = 12; /* the two samples of A5 */
+    write_past[9] = read_past[9] = 14;
     commanding = ht1621_commands(commands, sizeof commands, command_stream, sizeof command_stream);
     for (size_t i = 0; i < sizeof calls / sizeof calls[0]; i++)
         printf("%s %lu\n", calls[i].name, (unsigned long)(depth(calls[i].function) - depth(nothing)));
