@@ -229,8 +229,8 @@ pub fn frames(script: &mut Script) {
 pub fn past_the_memory(script: &mut Script) {
     script.words("frames that begin below, at and past the end of the memory");
     for first in [29, 31, 32, 33, 47, 62, 63] {
-        for text in [format!("110{first:06b}RRRRRRRRRRRRR"), format!("101{first:06b}110101101011R01RR"), format!("101{first:06b}RR0110RRR1")] {
-            script.capture(&record(&[]), &closed(&text));
+        for (id, rest) in [("110", "RRRRRRRRRRRRR"), ("101", "110101101011R01RR"), ("101", "RR0110RRR1")] {
+            script.capture(&record(&[]), &closed(&format!("{id}{first:06b}{rest}")));
         }
     }
     script.words("read frames that go on there");
