@@ -13,9 +13,6 @@ enum { NO_FRAME, IDENT, READ_ADDRESS, WRITE_ADDRESS, READING, WRITING, COMMAND, 
 enum { XTAL, RC, EXT };
 enum { NO_SOURCE, TIME_BASE, FLAG };
 
-/* A frame's addresses. The memory has the first 32 of them, HT1621_ADDRESSES. */
-enum { FRAME_ADDRESSES = 64 };
-
 /* ---- the record ---- */
 
 static unsigned value_in(const uint8_t *r) { return r[HT1621_AT_VALUE] + 256u * r[HT1621_AT_VALUE + 1]; }
@@ -25,7 +22,7 @@ static int valid(const uint8_t *r, size_t bytes)
     static const uint8_t most[HT1621_RECORD_BYTES] = {
         15, 15, 15, 15, 15, 15, 15, 15, 15, 15, 15, 15, 15, 15, 15, 15, /* memory */
         15, 15, 15, 15, 15, 15, 15, 15, 15, 15, 15, 15, 15, 15, 15, 15,
-        15, 7, 8, 255, 255, FRAME_ADDRESSES - 1, 3, 2,                  /* lines to DATA */
+        15, 7, 8, 255, 255, HT1621_FRAME_ADDRESSES - 1, 3, 2,           /* lines to DATA */
         1, 2, 1, 3, 4, 1, 4, 1,                                         /* system to the IRQ output */
         7, 1, 2, 1, 7, 15, 127, 255,                                    /* r to b */
         3, 1, 0, 0, 0, 0, 0, 0,
@@ -147,7 +144,7 @@ static uint32_t store(uint8_t *r, unsigned value)
 
     if (address < HT1621_ADDRESSES)
         r[address] = nibble;
-    r[HT1621_AT_ADDRESS] = (address + 1) % FRAME_ADDRESSES;
+    r[HT1621_AT_ADDRESS] = (address + 1) % HT1621_FRAME_ADDRESSES;
     r[HT1621_AT_POSITION] = 0;
     return answer(HT1621_NIBBLE_STORED, address, nibble);
 }
@@ -185,7 +182,7 @@ static uint32_t offer_bit(uint8_t *r)
     r[HT1621_AT_DATA] = 1 + bit;
     r[HT1621_AT_POSITION] = (position + 1) % 4;
     if (position == 3 && r[HT1621_AT_PHASE] == READING)
-        r[HT1621_AT_ADDRESS] = (address + 1) % FRAME_ADDRESSES;
+        r[HT1621_AT_ADDRESS] = (address + 1) % HT1621_FRAME_ADDRESSES;
     return answer(HT1621_BIT_OFFERED, address, bit);
 }
 
