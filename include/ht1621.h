@@ -25,10 +25,10 @@ enum {
     HT1621_FRAME_CLOSED = 2,
     HT1621_FRAME_CUT = 3,        /* closed, and unfinished bits were dropped */
     HT1621_BIT_TAKEN = 4,
-    HT1621_NIBBLE_STORED = 5,    /* address, below HT1621_FRAME_ADDRESSES, nibble; from HT1621_ADDRESSES on it is stored nowhere */
+    HT1621_NIBBLE_STORED = 5,    /* address, nibble; from HT1621_ADDRESSES on, up to 63, there is no memory, and it is stored nowhere */
     HT1621_COMMAND_OBEYED = 6,   /* the upper eight bits of the code, 0 */
     HT1621_COMMAND_UNDEFINED = 7, /* the same of a code that means nothing */
-    HT1621_BIT_OFFERED = 8,      /* the address it came from, below HT1621_FRAME_ADDRESSES, bit; from HT1621_ADDRESSES on it is 0 */
+    HT1621_BIT_OFFERED = 8,      /* the address it came from, bit; from HT1621_ADDRESSES on, up to 63, it is 0 */
     HT1621_STRAY_EDGE = 9,
     HT1621_UNKNOWN_ID = 10,
     HT1621_CLASH = 11

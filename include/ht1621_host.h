@@ -30,14 +30,14 @@ extern "C" {
    Stack: at most 128 bytes. */
 uint32_t ht1621_power_on(const uint8_t *memory, size_t memory_bytes, uint8_t *record, size_t record_bytes);
 
-/* Writes the stream that stores nibbles, a byte each, from the address `first` on: HT1621_STREAM_BYTES of their number. Addresses
-   are 0 to 31, and all that are written are among them.
+/* Writes the stream that stores nibbles, a byte each, from the address `first` on: HT1621_STREAM_BYTES of their number. Those of
+   the memory are 0 to 31, and all that are written are among them.
    Refused (HT1621_WRITE_REFUSED), in this order: HT1621_NOTHING_ASKED; HT1621_ADDRESS_ABOVE; HT1621_RUNS_PAST_END;
    HT1621_NIBBLE_ABOVE with its place; HT1621_OUTPUT_SHORT. Stack: at most 1024 bytes. */
 uint32_t ht1621_write(size_t first, const uint8_t *nibbles, size_t nibble_count, uint8_t *out, size_t out_bytes);
 
-/* Writes the stream that reads `count` nibbles from the address `first` on: HT1621_STREAM_BYTES(count). Addresses are 0 to 31, and
-   all that are read are among them. The host notes DATA, 0 or 1, at each sample 14 that raises RD: four bytes a nibble.
+/* Writes the stream that reads `count` nibbles from the address `first` on: HT1621_STREAM_BYTES(count). Those of the memory are
+   0 to 31, and all that are read are among them. The host notes DATA, 0 or 1, at each sample 14 that raises RD: four bytes a nibble.
    Refused (HT1621_READ_REFUSED), in this order: HT1621_NOTHING_ASKED; HT1621_ADDRESS_ABOVE; HT1621_RUNS_PAST_END;
    HT1621_OUTPUT_SHORT. Stack: at most 128 bytes. */
 uint32_t ht1621_read(size_t first, size_t count, uint8_t *out, size_t out_bytes);

@@ -60,7 +60,7 @@ numbered number first second = record { number = number; first = first; second =
 abbrev pub numbers : Answer → Numbers
 numbers answer = numbered (answerNumber answer) (firstDetail answer) (secondDetail answer)
 
--- What an answer does beyond the frame: a nibble that is stored changes the memory, a command that is obeyed the
+-- What an answer does beyond the frame: a nibble changes the memory where it has that address, a command that is obeyed the
 -- settings, and nothing else changes either.
 pub data Act : Type 0 where
   Keep : Act

@@ -31,7 +31,8 @@ unfoldable pub obeyedAs : Decoded → Settings → Settings
 obeyedAs Undefined settings = settings
 obeyedAs (Means command) settings = effect command settings
 
--- What a sample is answered, by what it came to in its frame.
+-- What a sample is answered, by what it came to in its frame. A nibble is answered with its address also from 32 on, where the memory
+-- has none for it.
 abbrev pub told : Upshot → Answer
 told (Answered answer) = answer
 told (Nibble at nibble) = Stored at nibble

@@ -51,7 +51,7 @@ pub stepped-moved : (c : Chip) (s : ℕ) → s ≤ 15 → stepped c s .chip .por
 unfolding stepped steppedTo
 stepped-moved c s h = simp (le-ltb _ _ h)
 
-stepped-answer : (c : Chip) (s : ℕ) → s ≤ 15 → stepped c s .answer ≡ told (moved (c .port) (levels s) .upshot)
+pub stepped-answer : (c : Chip) (s : ℕ) → s ≤ 15 → stepped c s .answer ≡ told (moved (c .port) (levels s) .upshot)
 unfolding stepped steppedTo
 stepped-answer c s h = simp (le-ltb _ _ h)
 

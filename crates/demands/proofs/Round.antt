@@ -3,10 +3,11 @@
 use mathlib.Core.Path.{_≡_, _∙_, refl, sym, ap, subst}
 use mathlib.Core.Bool.{Bool, true}
 use mathlib.Core.List.{List, [], _∷_, _++_, map}
-use Prim.Native.Nat.{ℕ, zero, suc, _<_}
+use Prim.Native.Nat.{ℕ, zero, suc, _%_, _<_}
 use native.Mathlib.Nat.{zero-add}
 use native.Mathlib.Omega.{arith}
 use lib.Dec.{eqb}
+use lib.ListN.{length}
 use borrow.Author.Tests.{ne-eqb}
 use Rattle.ground.specs.Bits.{bitAt}
 use Rattle.ground.proofs.ChoiceLaws.{either}
@@ -22,12 +23,12 @@ use Rattle.chip.specs.declared.Chip.{Chip}
 use Rattle.ticks.specs.Ticks.{advanced}
 use Rattle.streams.specs.Streams.{readId, writeId, addressBits}
 use Rattle.demands.specs.Events.{Event, after, samples, ticks, answers}
-use Rattle.demands.specs.Round.{headOf, edges, edgesAfterHead, CsLow, bitsIn, fallsIn, numbered, onFrom, lineDue, ReadFrames, WriteFrames}
+use Rattle.demands.specs.Round.{headOf, edges, edgesAfterHead, CsLow, bitsIn, fallsIn, fallsSince, answersNumbered, onFrom, lineDue, ReadFrames, WriteFrames}
 use Rattle.demands.specs.Stopped.{firstAnswer, bitAnswers}
 use Rattle.demands.proofs.CutLaws as write
-use Rattle.demands.proofs.Ports.{Sixteen, runP, trace, idle, high, run-headed, trace-headed, after-port, after-answers}
+use Rattle.demands.proofs.Ports.{Sixteen, runP, trace, idle, high, run-headed, trace-headed, after-port, after-answers, stepped-moved, stepped-answer}
 use Rattle.demands.proofs.ReadLaws as read
-use Rattle.demands.proofs.RoundLaws.{reading, reads-on, storesIn, nibblesOf, writing, writes-on, stores-size, stores-keep, stores-last, stores-below}
+use Rattle.demands.proofs.RoundLaws.{reading, reads-on, storesIn, nibblesOf, writing, StandsAt, writes-on, offer-next, stores-size, stores-keep, stores-last, stores-below}
 use Rattle.demands.proofs.SettingsLaws.{Plain, opened-plain, plain-settings}
 use Rattle.demands.proofs.StreamLevels.{up, bitsL, headL, headed, bits-sixteen}
 
@@ -42,10 +43,10 @@ head-edges b [] = refl
 head-edges b (s ∷ rest) = refl
 
 -- what a head is answered has numbers up to 4
-left-out : (answer : Answer) (number : ℕ) (rest : List Answer) → (answerNumber answer ≡ number → ⊥) → numbered number (answer ∷ rest) ≡ numbered number rest
+left-out : (answer : Answer) (number : ℕ) (rest : List Answer) → (answerNumber answer ≡ number → ⊥) → answersNumbered number (answer ∷ rest) ≡ answersNumbered number rest
 left-out answer number rest h = rw (ne-eqb (answerNumber answer) number h)
 
-bits-left-out : (count number : ℕ) (rest : List Answer) → 4 < number → numbered number (bitAnswers count ++ rest) ≡ numbered number rest
+bits-left-out : (count number : ℕ) (rest : List Answer) → 4 < number → answersNumbered number (bitAnswers count ++ rest) ≡ answersNumbered number rest
 bits-left-out zero number rest h = refl
 bits-left-out (suc count) number rest h =
     left-out Nothing number (Taken ∷ bitAnswers count ++ rest) (omega arith)
@@ -53,7 +54,7 @@ bits-left-out (suc count) number rest h =
     ∙ bits-left-out count number rest h
 
 head-left-out : (p : Port) (number : ℕ) (rest : List Answer) → 4 < number
-    → numbered number (firstAnswer p ∷ Opened ∷ bitAnswers 9 ++ rest) ≡ numbered number rest
+    → answersNumbered number (firstAnswer p ∷ Opened ∷ bitAnswers 9 ++ rest) ≡ answersNumbered number rest
 head-left-out p number rest h =
     left-out (firstAnswer p) number (Opened ∷ bitAnswers 9 ++ rest) first
     ∙ left-out Opened number (bitAnswers 9 ++ rest) (omega arith)
@@ -70,7 +71,7 @@ head-left-out p number rest h =
 -- what a whole frame comes to, once its head has led to a port: the port left, the answers, and settings by the ticks
 pub record Framed (c : Chip) (es : List Event) (q : Port) (rest : List ℕ) : Type 0 where
   pub port : after c es .port ≡ runP q (map levels rest)
-  pub told : (number : ℕ) → 4 < number → numbered number (answers c es) ≡ numbered number (trace q (map levels rest))
+  pub told : (number : ℕ) → 4 < number → answersNumbered number (answers c es) ≡ answersNumbered number (trace q (map levels rest))
   pub settings : Plain (trace q (map levels rest)) → after c es .settings ≡ advanced (ticks es) (c .settings)
 
 framed : (c : Chip) (id : List Bool) (first : ℕ) (rest : List ℕ) (es : List Event) (q : Port) → CsLow rest → samples es ≡ headOf id first ++ rest
@@ -88,7 +89,7 @@ framed c id first rest es q low e ran told =
     after-answers c es small ∙ ap (trace (c .port)) fed ∙ trace-headed (c .port) head (map levels rest) q ran (Opened ∷ bitAnswers 9) told in
     record {
       port = after-port c es small ∙ ap (runP (c .port)) fed ∙ run-headed (c .port) head (map levels rest) q ran;
-      told = λ number h. ap (numbered number) answered ∙ head-left-out (c .port) number body h;
+      told = λ number h. ap (answersNumbered number) answered ∙ head-left-out (c .port) number body h;
       settings = λ plain. plain-settings c es small (subst Plain (sym answered) (opened-plain (c .port) 9 body plain));
     }
 
@@ -122,12 +123,18 @@ write-frames c first rest es valid near low e =
     let on = writes-on rest low m start [] first 0 Released refl (omega arith) in
     let ns = nibblesOf (bitsIn (edges start rest)) in
     let left : after c es .port .memory ≡ storesIn m first ns = ap (λ (p : Port). p .memory) (whole .port) ∙ on .memory in
+    let size : length (after c es .port .memory) ≡ 32 = rw left (stores-size ns m first ∙ valid .port .size) in
     rw (← head-edges (bitAt 0 first) rest)
     (record {
       stored = whole .told 5 (omega arith) ∙ on .stores;
-      size = rw left (stores-size ns m first ∙ valid .port .size);
-      last = λ i h k inside. rw left (stores-last ns m first i (valid .port .size) h k inside);
+      size = size;
+      last = λ i h k inside. rw left (stores-last ns m first i (valid .port .size) h (omega (arith, k)) inside);
       kept = λ at none. rw left (stores-keep ns m first at none);
+      offers = λ s small falls.
+          let p = after c es .port in
+          let stands = subst (λ (q : Port). StandsAt (q .phase) (onFrom first (length ns)) (fallsSince 0 0 (edges start rest) % 4)) (sym (whole .port)) (on .stands) in
+          let next = offer-next p (levels s) (onFrom first (length ns)) (fallsSince 0 0 (edges start rest) % 4) stands size falls in
+          (stepped-answer (after c es) s small ∙ next .0, ap (λ (q : Port). q .line) (stepped-moved (after c es) s small) ∙ next .1);
       below = λ h. rw left (stores-below ns m first first (omega arith) (omega (arith, h)));
       settings = whole .settings (on .plain);
     })

@@ -28,7 +28,7 @@ use Rattle.port.specs.declared.Port.{Port}
 use Rattle.port.specs.Port.{memoryAfter, framedBy, movedAs, moved}
 use Rattle.chip.specs.Chip.{told}
 use Rattle.streams.specs.Streams.{nibbleOf, decoded}
-use Rattle.demands.specs.Round.{CsLow, edges, bitsIn, fallsIn, numbered, onFrom, standingAt, bitDue, offerDue, lineDue, storesDue}
+use Rattle.demands.specs.Round.{CsLow, edges, bitsIn, fallsIn, answersNumbered, onFrom, standingAt, bitDue, offerDue, lineDue, answersDue, fallsSince}
 use Rattle.demands.specs.Stopped.{withBits}
 use Rattle.demands.proofs.Ports.{runP, trace}
 use Rattle.demands.proofs.SettingsLaws.{Plain}
@@ -49,17 +49,17 @@ module _ (P : Edge → Type 0) (clash : P Clashes) (takes : (bit : Bool) → P (
 low-levels : (s : ℕ) → s % 2 ≡ 0 → levels s .cs ≡ false
 low-levels s e = rw e
 
+-- past the memory there is nothing but 0
+standing : (m : List ℕ) → length m ≡ 32 → (at : ℕ) → getD m at 0 ≡ standingAt m at
+standing m size at =
+    by-cases (λ n. getD m at 0 ≡ n) (ltb at _) (λ t. refl)
+    (λ f. List·getD-eq-default m 0 {n = at} (omega (arith, size, ltb-false at _ f)))
+
 -- ---- a read
 
 module _ (m : List ℕ) (size : length m ≡ 32) (first : ℕ) where
-  -- past the memory there is nothing but 0
-  standing : (at : ℕ) → getD m at 0 ≡ standingAt m at
-  standing at =
-      by-cases (λ n. getD m at 0 ≡ n) (ltb at _) (λ t. refl)
-      (λ f. List·getD-eq-default m 0 {n = at} (omega (arith, size, ltb-false at _ f)))
-
   bit-said : (n : ℕ) → bitAt (n % 4) (getD m (onFrom first (n / 4)) 0) ≡ bitDue m first n
-  bit-said n = ap (bitAt (n % 4)) (standing (onFrom first (n / 4)))
+  bit-said n = ap (bitAt (n % 4)) (standing m size (onFrom first (n / 4)))
 
   -- where the frame stands once n bits were asked for
   abbrev phaseDue : ℕ → Phase
@@ -85,7 +85,7 @@ module _ (m : List ℕ) (size : length m ≡ 32) (first : ℕ) where
   pub record ReadOn (n falls : ℕ) (left : Port) (answers : List Answer) : Type 0 where
     pub memory : left .memory ≡ m
     pub line : left .line ≡ lineDue m first (n + falls)
-    pub offers : numbered 8 answers ≡ values (offerDue m first) n falls
+    pub offers : answersNumbered 8 answers ≡ values (offerDue m first) n falls
     pub plain : Plain answers
 
   abbrev ReadsOn : Port → List ℕ → ℕ → ℕ → Type 0
@@ -113,7 +113,7 @@ module _ (m : List ℕ) (size : length m ≡ 32) (first : ℕ) where
           memory = ap (λ (p : Port). runP p (map levels rest) .memory) stands ∙ on .memory;
           line = ap (λ (p : Port). runP p (map levels rest) .line) stands ∙ on .line ∙ ap (lineDue m first) count;
           offers =
-              ap₂ (λ (b : Bool) (p : Port). Offered (onFrom first (n / 4)) b ∷ numbered 8 (trace p (map levels rest))) bit stands
+              ap₂ (λ (b : Bool) (p : Port). Offered (onFrom first (n / 4)) b ∷ answersNumbered 8 (trace p (map levels rest))) bit stands
               ∙ ap (λ (others : List Answer). offerDue m first n ∷ others) (on .offers);
           plain = (tt, subst (λ (p : Port). Plain (trace p (map levels rest))) (sym stands) (on .plain));
         }
@@ -168,59 +168,72 @@ few-bits (a ∷ b ∷ []) h = refl
 few-bits (a ∷ b ∷ c ∷ []) h = refl
 few-bits (a ∷ b ∷ c ∷ d ∷ bits) h = let no : ⊥ = omega arith in absurd no
 
--- a frame that has taken these bits of the next nibble
+-- a frame that has taken these bits of the next nibble, and was asked for so many bits since the last
 abbrev pub writing : List ℕ → Levels → List Bool → ℕ → ℕ → Line → Port
-writing m l bits at position line =
-    record { memory = m; levels = l; phase = Writing (length bits) (withBits 0 bits) (at % 64) position; line = line }
+writing m l bits at falls line =
+    record { memory = m; levels = l; phase = Writing (length bits) (withBits 0 bits) (at % 64) (falls % 4); line = line }
 
-pub record WriteOn (m : List ℕ) (at : ℕ) (nibbles : List ℕ) (left : Port) (answers : List Answer) : Type 0 where
+pub record StandsAt (phase : Phase) (at position : ℕ) : Type 0 where
+  pub count : ℕ
+  pub value : ℕ
+  pub is : phase ≡ Writing count value at position
+
+-- what is left of it, and what was answered, after these nibbles and so many falls since
+pub record WriteOn (m : List ℕ) (at : ℕ) (nibbles : List ℕ) (since : ℕ) (left : Port) (answers : List Answer) : Type 0 where
   pub memory : left .memory ≡ storesIn m at nibbles
-  pub stores : numbered 5 answers ≡ storesDue at nibbles
+  pub stores : answersNumbered 5 answers ≡ answersDue at nibbles
   pub plain : Plain answers
+  pub stands : StandsAt (left .phase) (onFrom at (length nibbles)) (since % 4)
 
-abbrev WritesOn : List ℕ → ℕ → Port → List ℕ → List ℕ → Type 0
-WritesOn m at p rest nibbles = WriteOn m at nibbles (runP p (map levels rest)) (trace p (map levels rest))
+abbrev WritesOn : List ℕ → ℕ → List ℕ → ℕ → List ℕ → Port → Type 0
+WritesOn m at nibbles since rest p = WriteOn m at nibbles since (runP p (map levels rest)) (trace p (map levels rest))
 
 abbrev WritesFrom : List ℕ → Type 0
 WritesFrom rest =
-    (m : List ℕ) (l : Levels) (bits : List Bool) (at position : ℕ) (line : Line) → l .cs ≡ false → length bits ≤ 3
-    → WritesOn m at (writing m l bits at position line) rest (nibblesOf (bits ++ bitsIn (edges l rest)))
+    (m : List ℕ) (l : Levels) (bits : List Bool) (at falls : ℕ) (line : Line) → l .cs ≡ false → length bits ≤ 3
+    → WritesOn m at (nibblesOf (bits ++ bitsIn (edges l rest))) (fallsSince (length bits) falls (edges l rest)) rest (writing m l bits at falls line)
 
-module _ (m : List ℕ) (l : Levels) (s : ℕ) (rest : List ℕ) (at position : ℕ) (line : Line) where
+module _ (m : List ℕ) (l : Levels) (s : ℕ) (rest : List ℕ) (at falls : ℕ) (line : Line) where
   -- of a first sample, by what it is to the frame
   abbrev WritesBy : List Bool → Edge → Type 0
   WritesBy bits e =
-      let p = writing m l bits at position line in
+      let p = writing m l bits at falls line in
       let q = movedAs p (levels s) (frame e (getD m (at % 64) 0) (p .phase) line) in
-      WriteOn m at (nibblesOf (bits ++ bitsIn (e ∷ edges (levels s) rest))) (runP (q .port) (map levels rest))
-      (told (q .upshot) ∷ trace (q .port) (map levels rest))
+      WriteOn m at (nibblesOf (bits ++ bitsIn (e ∷ edges (levels s) rest))) (fallsSince (length bits) falls (e ∷ edges (levels s) rest))
+      (runP (q .port) (map levels rest)) (told (q .upshot) ∷ trace (q .port) (map levels rest))
 
   module _ (on : WritesFrom rest) (now : levels s .cs ≡ false) where
     -- a bit completes a nibble where three came before it
     bit-taken : (bits : List Bool) (bit : Bool) → length bits ≤ 3 → WritesBy bits (Takes bit)
     unfolding frame taken nibbleTaken memoryAfter
     bit-taken [] bit h =
-        let further = on m (levels s) (bit ∷ []) at position Released now (omega arith) in
-        record { memory = further .memory; stores = further .stores; plain = (tt, further .plain) }
+        let further = on m (levels s) (bit ∷ []) at falls Released now (omega arith) in
+        record { memory = further .memory; stores = further .stores; plain = (tt, further .plain); stands = further .stands }
     bit-taken (a ∷ []) bit h =
-        let further = on m (levels s) (a ∷ bit ∷ []) at position Released now (omega arith) in
-        record { memory = further .memory; stores = further .stores; plain = (tt, further .plain) }
+        let further = on m (levels s) (a ∷ bit ∷ []) at falls Released now (omega arith) in
+        record { memory = further .memory; stores = further .stores; plain = (tt, further .plain); stands = further .stands }
     bit-taken (a ∷ b ∷ []) bit h =
-        let further = on m (levels s) (a ∷ b ∷ bit ∷ []) at position Released now (omega arith) in
-        record { memory = further .memory; stores = further .stores; plain = (tt, further .plain) }
+        let further = on m (levels s) (a ∷ b ∷ bit ∷ []) at falls Released now (omega arith) in
+        record { memory = further .memory; stores = further .stores; plain = (tt, further .plain); stands = further .stands }
     bit-taken (a ∷ b ∷ c ∷ []) bit h =
         let n = nibbleOf (bitNumber a) (bitNumber b) (bitNumber c) (bitNumber bit) in
-        let further = on (set m (at % 64) n) (levels s) [] (at + 1) 0 Released now (omega arith) in
+        let ns = nibblesOf (bitsIn (edges (levels s) rest)) in
         let steps : next (at % 64) ≡ (at + 1) % 64 = omega arith in
         let made = nibble-made a b c bit in
-        let stands : record { memory = set m (at % 64) (turned (withBits 0 (a ∷ b ∷ c ∷ bit ∷ []))); levels = levels s; phase = Writing 0 0 (next (at % 64)) 0; line = Released } ≡ writing (set m (at % 64) n) (levels s) [] (at + 1) 0 Released =
+        let since = fallsSince 0 0 (edges (levels s) rest) in
+        let q : Port =
+        record { memory = set m (at % 64) (turned (withBits 0 (a ∷ b ∷ c ∷ bit ∷ []))); levels = levels s; phase = Writing 0 0 (next (at % 64)) 0; line = Released } in
+        let begins : q ≡ writing (set m (at % 64) n) (levels s) [] (at + 1) 0 Released =
         λ i. record { memory = set m (at % 64) (made i); levels = levels s; phase = Writing 0 0 (steps i) 0; line = Released } in
+        let further =
+        subst (WritesOn (set m (at % 64) n) (at + 1) ns since rest) (sym begins)
+        (on (set m (at % 64) n) (levels s) [] (at + 1) 0 Released now (omega arith)) in
+        let one : onFrom (at + 1) (length ns) ≡ onFrom at (suc (length ns)) = omega arith in
         record {
-          memory = ap (λ (p : Port). runP p (map levels rest) .memory) stands ∙ further .memory;
-          stores =
-              ap₂ (λ (x : ℕ) (p : Port). Stored (at % 64) x ∷ numbered 5 (trace p (map levels rest))) made stands
-              ∙ ap (λ (others : List Answer). Stored (at % 64) n ∷ others) (further .stores);
-          plain = (tt, subst (λ (p : Port). Plain (trace p (map levels rest))) (sym stands) (further .plain));
+          memory = further .memory;
+          stores = ap₂ (λ (x : ℕ) (others : List Answer). Stored (at % 64) x ∷ others) made (further .stores);
+          plain = (tt, further .plain);
+          stands = subst (λ (x : ℕ). StandsAt (runP q (map levels rest) .phase) x (since % 4)) one (further .stands);
         }
     bit-taken (a ∷ b ∷ c ∷ d ∷ bits) bit h = let no : ⊥ = omega arith in absurd no
 
@@ -228,23 +241,45 @@ module _ (m : List ℕ) (l : Levels) (s : ℕ) (rest : List ℕ) (at position : 
     bits-stay : (bits : List Bool) → length bits ≤ 3 → (WritesBy bits Clashes) × (WritesBy bits Offers) × (WritesBy bits Quiet)
     unfolding frame offered memoryAfter
     bits-stay bits h =
-        let still = on m (levels s) bits at position line now h in
-        let read = on m (levels s) bits at ((position + 1) % 4) (Driven (bitAt position (getD m (at % 64) 0))) now h in (
-          record { memory = still .memory; stores = still .stores; plain = (tt, still .plain) },
-          record { memory = read .memory; stores = read .stores; plain = (tt, read .plain) },
-          record { memory = still .memory; stores = still .stores; plain = (tt, still .plain) },
+        let still = on m (levels s) bits at falls line now h in
+        let shown = Driven (bitAt (falls % 4) (getD m (at % 64) 0)) in
+        let round : (falls % 4 + 1) % 4 ≡ (falls + 1) % 4 = omega arith in
+        let read =
+        subst (λ (position : ℕ).
+        WritesOn m at (nibblesOf (bits ++ bitsIn (edges (levels s) rest))) (fallsSince (length bits) (falls + 1) (edges (levels s) rest)) rest
+        (record { memory = m; levels = levels s; phase = Writing (length bits) (withBits 0 bits) (at % 64) position; line = shown })) (sym round)
+        (on m (levels s) bits at (falls + 1) shown now h) in (
+          record { memory = still .memory; stores = still .stores; plain = (tt, still .plain); stands = still .stands },
+          record { memory = read .memory; stores = read .stores; plain = (tt, read .plain); stands = read .stands },
+          record { memory = still .memory; stores = still .stores; plain = (tt, still .plain); stands = still .stands },
         )
 
 pub writes-on : (rest : List ℕ) → CsLow rest → WritesFrom rest
 unfolding moved framedBy
-writes-on [] v m l bits at position line low few =
-    rw (few-bits bits few) (record { memory = refl; stores = refl; plain = tt })
-writes-on (s ∷ ss) v m l bits at position line low few =
+writes-on [] v m l bits at falls line low few =
+    let still : at % 64 ≡ onFrom at 0 = omega arith in
+    rw (few-bits bits few)
+    (record {
+      memory = refl;
+      stores = refl;
+      plain = tt;
+      stands = record { count = length bits; value = withBits 0 bits; is = ap (λ (x : ℕ). Writing (length bits) (withBits 0 bits) x (falls % 4)) still };
+    })
+writes-on (s ∷ ss) v m l bits at falls line low few =
     let now = low-levels s (v .1) in
     let on = writes-on ss (v .2) in
-    let stay = bits-stay m l s ss at position line on now bits few in
-    by-edge (WritesBy m l s ss at position line bits) (stay .0) (λ bit. bit-taken m l s ss at position line on now bits bit few) (stay .1) (stay .2)
+    let stay = bits-stay m l s ss at falls line on now bits few in
+    by-edge (WritesBy m l s ss at falls line bits) (stay .0) (λ bit. bit-taken m l s ss at falls line on now bits bit few) (stay .1) (stay .2)
     l (levels s) low now
+
+-- a fall is then offered the bit at the reading position
+pub offer-next : (p : Port) (now : Levels) (at position : ℕ) → StandsAt (p .phase) at position → length (p .memory) ≡ 32 → edge (p .levels) now ≡ Offers
+    → (let bit = bitAt position (standingAt (p .memory) at) in
+    (told (moved p now .upshot) ≡ Offered at bit) × (moved p now .port .line ≡ Driven bit))
+unfolding moved framedBy frame offered
+offer-next p now at position there size e =
+    let bit = ap (bitAt position) (standing (p .memory) size at) in
+    (rw (e, there .is) (ap (Offered at) bit), rw (e, there .is) (ap Driven bit))
 
 -- ---- the memory that is left, address by address
 

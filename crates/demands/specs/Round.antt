@@ -1,5 +1,6 @@
 -- RULES "Inside a frame": a frame goes on past the memory, and round through its 64 addresses. On any valid chip a read or a write is
--- opened at any of them, and then come any samples that leave CS low, with ticks anywhere. Assumes nothing.
+-- opened at any of them, and then come any samples with CS low, with ticks anywhere. 32 and 64 stand here as numbers, apart from the model's
+-- own; what a sample is to a frame, `edge`, is the model's, and the sheet has that once more. Assumes nothing.
 use mathlib.Core.Path.{_≡_}
 use mathlib.Core.Bool.{Bool, cond}
 use mathlib.Core.List.{List, [], _∷_, _++_, map}
@@ -19,6 +20,7 @@ use Rattle.answers.specs.declared.Answer.the-variants.{Stored, Offered}
 use Rattle.answers.specs.Answers.{answerNumber}
 use Rattle.ticks.specs.Ticks.{advanced}
 use Rattle.chip.specs.declared.Chip.{Chip}
+use Rattle.chip.specs.Chip.{stepped}
 use Rattle.chip.specs.Valid.{Valid}
 use Rattle.streams.specs.Streams.{opening, sendBits, writeId, readId, addressBits, decoded}
 use Rattle.demands.specs.Events.{Event, after, samples, ticks, answers}
@@ -37,7 +39,7 @@ edges before (s ∷ ss) = edge before (levels s) ∷ edges (levels s) ss
 abbrev pub edgesAfterHead : List ℕ → List Edge
 edgesAfterHead rest = edges (levels 14) rest
 
--- CS is low in all of these, so the frame stays open.
+-- CS is low in all of these, so the frame stays open, and none is refused.
 abbrev pub CsLow : List ℕ → Type 0
 CsLow [] = Unit {0}
 CsLow (s ∷ ss) = (s ≤ 15) × (s % 2 ≡ 0) × CsLow ss
@@ -64,9 +66,9 @@ fallsIn (Offers ∷ rest) = suc (fallsIn rest)
 fallsIn (Quiet ∷ rest) = fallsIn rest
 
 -- Of some answers those with one of the numbers of RULES "What a sample is answered".
-abbrev pub numbered : ℕ → List Answer → List Answer
-numbered number [] = []
-numbered number (answer ∷ rest) = cond (eqb (answerNumber answer) number) (answer ∷ numbered number rest) (numbered number rest)
+abbrev pub answersNumbered : ℕ → List Answer → List Answer
+answersNumbered number [] = []
+answersNumbered number (answer ∷ rest) = cond (eqb (answerNumber answer) number) (answer ∷ answersNumbered number rest) (answersNumbered number rest)
 
 -- The address so many nibbles on from the first: 63 is followed by 0.
 abbrev pub onFrom : ℕ → ℕ → ℕ
@@ -85,15 +87,15 @@ bitDue memory first n = bitAt (n % 4) (standingAt memory (onFrom first (n / 4)))
 abbrev pub offerDue : List ℕ → ℕ → ℕ → Answer
 offerDue memory first n = Offered (onFrom first (n / 4)) (bitDue memory first n)
 
--- DATA after so many falls: the bit offered last.
+-- DATA after so many falls: released before the first, and then the bit offered last.
 abbrev pub lineDue : List ℕ → ℕ → ℕ → Line
 lineDue memory first zero = Released
 lineDue memory first (suc n) = Driven (bitDue memory first n)
 
 -- A read from `first` on that was asked for so many bits: it has offered the memory up to 31, zeros at 32 to 63, and then the memory
--- from address 0 on; and it has changed nothing.
+-- from address 0 on. The memory is as it was, and the settings are what the ticks alone make of them.
 pub record ReadsRound (chip : Chip) (first falls : ℕ) (events : List Event) : Type 0 where
-  pub offered : numbered 8 (answers chip events) ≡ values (offerDue (chip .port .memory) first) 0 falls
+  pub offered : answersNumbered 8 (answers chip events) ≡ values (offerDue (chip .port .memory) first) 0 falls
   pub line : after chip events .port .line ≡ lineDue (chip .port .memory) first falls
   pub memory : after chip events .port .memory ≡ chip .port .memory
   pub settings : after chip events .settings ≡ advanced (ticks events) (chip .settings)
@@ -106,21 +108,41 @@ ReadFrames =
 
 -- ---- a write
 
--- The answers that nibbles owe which are sent from an address on, where there is no memory too.
-abbrev pub storesDue : ℕ → List ℕ → List Answer
-storesDue at [] = []
-storesDue at (nibble ∷ nibbles) = Stored (at % 64) nibble ∷ storesDue (at + 1) nibbles
+-- What nibbles sent from an address on are answered, also where there is no memory.
+abbrev pub answersDue : ℕ → List ℕ → List Answer
+answersDue at [] = []
+answersDue at (nibble ∷ nibbles) = Stored (at % 64) nibble ∷ answersDue (at + 1) nibbles
 
--- A write from `first` on that was sent these nibbles. An address of the memory has the last one that came to it, and where none came it
--- is as it was. So until the frame comes round at 64 the addresses below the first stay as they were.
-pub record WritesRound (chip : Chip) (first : ℕ) (nibbles : List ℕ) (events : List Event) : Type 0 where
-  pub stored : numbered 5 (answers chip events) ≡ storesDue first nibbles
+-- The reading position goes round from D0 while nibbles are not complete: how many falls there were since the last one was, or since the
+-- head, where so many bits of the next one and so many falls came before these edges.
+abbrev pub fallsSince : ℕ → ℕ → List Edge → ℕ
+fallsSince bits falls [] = falls
+fallsSince bits falls (Rests ∷ rest) = fallsSince bits falls rest
+fallsSince bits falls (Closes ∷ rest) = fallsSince bits falls rest
+fallsSince bits falls (Opens ∷ rest) = fallsSince bits falls rest
+fallsSince bits falls (Clashes ∷ rest) = fallsSince bits falls rest
+fallsSince bits falls (Takes bit ∷ rest) = cond (eqb bits 3) (fallsSince 0 0 rest) (fallsSince (bits + 1) falls rest)
+fallsSince bits falls (Offers ∷ rest) = fallsSince bits (falls + 1) rest
+fallsSince bits falls (Quiet ∷ rest) = fallsSince bits falls rest
+
+-- A sample that is answered with a bit of an address, and after which DATA is driven with it.
+abbrev pub IsOffered : Chip → ℕ → ℕ → Bool → Type 0
+IsOffered chip s at bit = (stepped chip s .answer ≡ Offered at bit) × (stepped chip s .chip .port .line ≡ Driven bit)
+
+-- A write from `first` on that was sent these nibbles, and was asked for so many bits since the last of them. An address of the memory has
+-- the last nibble that came to it, which is one with fewer than 64 after it, and where none came it is as it was. So until the frame comes
+-- round at 64 the addresses below the first stay as they were. The next fall is offered a bit of the address reached, as it stands then.
+pub record WritesRound (chip : Chip) (first : ℕ) (nibbles : List ℕ) (falls : ℕ) (events : List Event) : Type 0 where
+  pub stored : answersNumbered 5 (answers chip events) ≡ answersDue first nibbles
   pub size : length (after chip events .port .memory) ≡ 32
   pub last : (i : ℕ) → i < length nibbles → length nibbles ≤ i + 64 → onFrom first i < 32
       → getD (after chip events .port .memory) (onFrom first i) 0 ≡ getD nibbles i 0
   pub kept : (at : ℕ) → ((i : ℕ) → i < length nibbles → onFrom first i ≡ at → ⊥)
       → getD (after chip events .port .memory) at 0 ≡ getD (chip .port .memory) at 0
   pub below : first + length nibbles ≤ 64 → take first (after chip events .port .memory) ≡ take first (chip .port .memory)
+  pub offers : (s : ℕ) → s ≤ 15 → edge (after chip events .port .levels) (levels s) ≡ Offers
+      → (let at = onFrom first (length nibbles) in
+      IsOffered (after chip events) s at (bitAt (falls % 4) (standingAt (after chip events .port .memory) at)))
   pub settings : after chip events .settings ≡ advanced (ticks events) (chip .settings)
 
 -- The nibbles sent are those of the bits that WR rises bring, four by four.
@@ -128,4 +150,4 @@ abbrev pub WriteFrames : Type 0
 WriteFrames =
     (chip : Chip) (first : ℕ) (rest : List ℕ) (events : List Event)
     → Valid chip → first < 64 → CsLow rest → samples events ≡ headOf writeId first ++ rest
-    → WritesRound chip first (decoded (map bitNumber (bitsIn (edgesAfterHead rest)))) events
+    → WritesRound chip first (decoded (map bitNumber (bitsIn (edgesAfterHead rest)))) (fallsSince 0 0 (edgesAfterHead rest)) events

@@ -65,7 +65,7 @@ writeToTaken bit count value =
     cond (ltb count 5) (collected (WriteTo (count + 1) (more value bit)))
     (collected (Writing 0 0 (reached (more value bit)) 0))
 
--- Writing: with its fourth bit a nibble is stored, and the frame goes on at the next address, to be read from D0 on.
+-- Writing: with its fourth bit a nibble is complete, and the frame goes on at the next address, to be read from D0 on.
 unfoldable pub nibbleTaken : Bool → ℕ → ℕ → ℕ → ℕ → Framed
 nibbleTaken bit count value at position =
     cond (ltb count 3) (collected (Writing (count + 1) (more value bit) at position))

@@ -35,7 +35,7 @@ use Rattle.state.specs.Record.{recordValid, chipOf}
 use Rattle.state.proofs.TripLaws.{valid-has}
 use Rattle.simulator.specs.Simulator.{answerCode}
 use Rattle.sheet.specs.Bytes.{byte}
-use Rattle.sheet.specs.Frames.{OnlyLevels, Leaves, there, due, Offers, bits, withBit, beforeLast, identified, nibbleOf, stored, oneMore, Completes, Takes}
+use Rattle.sheet.specs.Frames.{OnlyLevels, Stores, Leaves, there, due, Offers, bits, withBit, beforeLast, identified, nibbleOf, storeReturns, nextNibble, oneMore, Completes, Takes}
 use Rattle.sheet.proofs.BytesLaws.{bits-small}
 use Rattle.sheet.proofs.FramesLaws.{frameLeft, phase-at, code-said, low-said, high-said, address-said, position-said, read-frame, stray-fall, ident-made}
 use Rattle.sheet.proofs.SamplesLaws.{size, tells, stores, leaves, port-left, only, framed-by}
@@ -109,12 +109,6 @@ module _ (b : List ℕ) (valid : recordValid b ≡ true) (s : ℕ) (small : s �
         let five : bits b < 32 = subst (λ n. bits b < 2 ^ n) count (has .small) in
         mod-eq-of-lt (omega arith)
 
-    -- past the memory a nibble is stored nowhere
-    stored-said : (n : ℕ) → set (take 32 b) (byte b 37) n ≡ stored b n
-    stored-said n =
-        by-cases (λ m. set (take 32 b) (byte b 37) n ≡ m) (ltb (byte b 37) _) (λ t. refl)
-        (λ f. set-out (take 32 b) (byte b 37) n (omega (arith, size b valid, ltb-false (byte b 37) _ f)))
-
     -- the ninth is ignored
     upper-eight : withBit b s / 2 % 256 ≡ bits b
     upper-eight = omega (arith, bits-small b valid)
@@ -182,6 +176,14 @@ module _ (b : List ℕ) (valid : recordValid b ≡ true) (s : ℕ) (small : s �
         inr (stores b valid s small (framed (Command 0 0) Released (Code (bits b))) e _ _ _
         (ap (λ (m : Decoded). answerCode (decodedAnswer m (bits b))) d ∙ add-zero (7 + 256 * bits b)) refl (rw d) refl)
 
+    -- the fourth bit of a nibble, by what storing makes of the memory
+    completes : byte b 33 ≡ 5 → byte b 34 ≡ 3 → (memory : List ℕ) → set (take 32 b) (byte b 37) (nibbleOf (withBit b s)) ≡ memory
+        → Stores b s (storeReturns b s) memory (nextNibble b)
+    unfolding phaseRead model.taken model.nibbleTaken answerCode memoryAfter settingsAfter
+    completes e count memory kept =
+        stores b valid s small (framed (Writing 0 0 (model.next (byte b 37)) 0) Released (Nibble (byte b 37) (nibbleOf (withBit b s))))
+        (taken-by (Writing (byte b 34) (bits b) (byte b 37) (byte b 38)) (phase-at b valid 5 e) ∙ rw (count, with-bit)) _ _ _ refl kept refl refl
+
     pub takes : Takes b s
     unfolding phaseRead model.taken model.identTaken model.readToTaken model.writeToTaken model.nibbleTaken model.commandTaken answerCode memoryAfter settingsAfter
     takes =
@@ -198,9 +200,10 @@ module _ (b : List ℕ) (valid : recordValid b ≡ true) (s : ℕ) (small : s �
               leads (ReadTo (byte b 34) (bits b)) (phase-at b valid 2 e) (Reading (withBit b s) 0) _ (rw (count, with-bit, six-reach count)) refl;
           writesFrom = λ e count.
               leads (WriteTo (byte b 34) (bits b)) (phase-at b valid 3 e) (Writing 0 0 (withBit b s) 0) _ (rw (count, with-bit, six-reach count)) refl;
-          stores = λ e count.
-              stores b valid s small (framed (Writing 0 0 (model.next (byte b 37)) 0) Released (Nibble (byte b 37) (nibbleOf (withBit b s))))
-              (taken-by (Writing (byte b 34) (bits b) (byte b 37) (byte b 38)) (phase-at b valid 5 e) ∙ rw (count, with-bit)) _ _ _ refl (stored-said (nibbleOf (withBit b s))) refl refl;
+          stores = λ e count inside. completes e count (set (take 32 b) (byte b 37) (nibbleOf (withBit b s))) refl;
+          storesNowhere = λ e count past.
+              completes e count (take 32 b)
+              (set-out (take 32 b) (byte b 37) (nibbleOf (withBit b s)) (omega (arith, size b valid, past)));
           commands = λ e count.
               ninth (codeMeaning (2 * bits b)) refl
               (taken-by (Command (byte b 34) (bits b)) (phase-at b valid 6 e) ∙ rw (count, with-bit, upper-eight));

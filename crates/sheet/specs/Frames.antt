@@ -4,7 +4,7 @@ use mathlib.Core.Path.{_≡_}
 use mathlib.Core.Bool.{cond}
 use mathlib.Core.List.{List, [], _∷_, _++_}
 use mathlib.Core.Logic.{_⊎_}
-use Prim.Native.Nat.{ℕ, _+_, _*_, _/_, _%_, _^_, _<_}
+use Prim.Native.Nat.{ℕ, _+_, _*_, _/_, _%_, _^_, _≤_, _<_}
 use lib.Dec.{eqb, ltb}
 use lib.ListN.{getD, take, drop, set, replicate}
 use Rattle.simulator.specs.Simulator.{stepReturns, stepBytes}
@@ -69,9 +69,12 @@ identified id = cond (eqb id 6) 2 (cond (eqb id 5) 3 (cond (eqb id 4) 6 7))
 abbrev pub nibbleOf : ℕ → ℕ
 nibbleOf four = four / 8 % 2 + 2 * (four / 4 % 2) + 4 * (four / 2 % 2) + 8 * (four % 2)
 
--- The memory with a nibble at the address, byte 37: from 32 on it stays as it was.
-abbrev pub stored : List ℕ → ℕ → List ℕ
-stored b nibble = cond (ltb (byte b 37) 32) (set (take 32 b) (byte b 37) nibble) (take 32 b)
+-- What a nibble is answered that is complete, and how the frame goes on: at the next address, after 63 at 0, with no bit and from D0 on.
+abbrev pub storeReturns : List ℕ → ℕ → ℕ
+storeReturns b s = 5 + 256 * byte b 37 + 65536 * nibbleOf (withBit b s)
+
+abbrev pub nextNibble : List ℕ → List ℕ
+nextNibble b = 5 ∷ 0 ∷ 0 ∷ 0 ∷ (byte b 37 + 1) % 64 ∷ 0 ∷ 0 ∷ []
 
 -- One bit more, in the same phase: DATA is released.
 abbrev pub oneMore : List ℕ → ℕ → List ℕ
@@ -96,9 +99,10 @@ pub record Takes (b : List ℕ) (s : ℕ) : Type 0 where
   -- the sixth of an address: reading or writing begins there, at D0
   pub readsFrom : byte b 33 ≡ 2 → byte b 34 ≡ 5 → Leaves b s 4 (4 ∷ 0 ∷ 0 ∷ 0 ∷ withBit b s ∷ 0 ∷ 0 ∷ [])
   pub writesFrom : byte b 33 ≡ 3 → byte b 34 ≡ 5 → Leaves b s 4 (5 ∷ 0 ∷ 0 ∷ 0 ∷ withBit b s ∷ 0 ∷ 0 ∷ [])
-  -- the fourth of a nibble: it is stored, answered with its address, which then steps, and the reading position is D0
-  pub stores : byte b 33 ≡ 5 → byte b 34 ≡ 3
-      → Stores b s (5 + 256 * byte b 37 + 65536 * nibbleOf (withBit b s)) (stored b (nibbleOf (withBit b s)))
-      (5 ∷ 0 ∷ 0 ∷ 0 ∷ (byte b 37 + 1) % 64 ∷ 0 ∷ 0 ∷ [])
+  -- the fourth of a nibble: it is stored, the address steps, and the reading position is D0
+  pub stores : byte b 33 ≡ 5 → byte b 34 ≡ 3 → byte b 37 < 32
+      → Stores b s (storeReturns b s) (set (take 32 b) (byte b 37) (nibbleOf (withBit b s))) (nextNibble b)
+  -- the same past the memory: the answer tells of it, and the memory is as it was
+  pub storesNowhere : byte b 33 ≡ 5 → byte b 34 ≡ 3 → 32 ≤ byte b 37 → Leaves b s (storeReturns b s) (nextNibble b)
   -- the ninth of a command
   pub commands : byte b 33 ≡ 6 → byte b 34 ≡ 8 → Completes b s
