@@ -41,6 +41,7 @@ fn stored(memory: [u8; ADDRESSES], at: u8, nibble: u8) -> [u8; ADDRESSES]
     let i = at as usize;
     if i < ADDRESSES {
         next[i] = nibble;
+        return next;
     }
     next
 }
