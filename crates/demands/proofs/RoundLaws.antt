@@ -6,7 +6,7 @@ use mathlib.Core.List.{List, [], _∷_, _++_, map}
 use Prim.Native.Nat.{ℕ, zero, suc, _+_, _/_, _%_, _≤_, _<_}
 use native.Mathlib.Nat.{add-zero}
 use native.Mathlib.Omega.{arith}
-use lib.Dec.{ltb}
+use lib.Dec.{eqb, ltb}
 use lib.ListN.{length, getD, set, take, List·getD-eq-default, length-set}
 use lib.Seq.{getD-set-same, getD-set-other, take-set-le}
 use borrow.Author.Tests.{ltb-true, ltb-false}
@@ -22,7 +22,8 @@ use Rattle.phases.specs.declared.Phase.the-variants.{Reading, Writing}
 use Rattle.phases.specs.declared.Line.{Line}
 use Rattle.phases.specs.declared.Line.the-variants.{Released, Driven}
 use Rattle.answers.specs.declared.Answer.{Answer}
-use Rattle.answers.specs.declared.Answer.the-variants.{Stored, Offered}
+use Rattle.answers.specs.declared.Answer.the-variants.{Nothing, Taken, Stored, Offered, Stray, Clash}
+use Rattle.answers.specs.Answers.{answerNumber, act}
 use Rattle.frames.specs.Frames.{turned, next, frame, taken, offered, readOffered, nibbleTaken}
 use Rattle.port.specs.declared.Port.{Port}
 use Rattle.port.specs.Port.{memoryAfter, framedBy, movedAs, moved}
@@ -31,7 +32,7 @@ use Rattle.streams.specs.Streams.{nibbleOf, decoded}
 use Rattle.demands.specs.Round.{CsLow, edges, bitsIn, fallsIn, answersNumbered, onFrom, standingAt, bitDue, offerDue, lineDue, answersDue, fallsSince}
 use Rattle.demands.specs.Stopped.{withBits}
 use Rattle.demands.proofs.Ports.{runP, trace}
-use Rattle.demands.proofs.SettingsLaws.{Plain}
+use Rattle.demands.proofs.SettingsLaws.{Unobeyed, Plain}
 
 -- ---- one sample
 
@@ -88,6 +89,12 @@ module _ (m : List ℕ) (size : length m ≡ 32) (first : ℕ) where
     pub offers : answersNumbered 8 answers ≡ values (offerDue m first) n falls
     pub plain : Plain answers
 
+  -- with one more answer in front, which offers and obeys nothing
+  read-more : (n falls : ℕ) (left : Port) (answers : List Answer) (answer : Answer) → eqb (answerNumber answer) 8 ≡ false → Unobeyed (act answer)
+      → ReadOn n falls left answers → ReadOn n falls left (answer ∷ answers)
+  read-more n falls left answers answer other plain on =
+      record { memory = on .memory; line = on .line; offers = rw other (on .offers); plain = (plain, on .plain) }
+
   abbrev ReadsOn : Port → List ℕ → ℕ → ℕ → Type 0
   ReadsOn p rest n falls = ReadOn n falls (runP p (map levels rest)) (trace p (map levels rest))
 
@@ -97,7 +104,7 @@ module _ (m : List ℕ) (size : length m ≡ 32) (first : ℕ) where
       let q = movedAs (reading l n) (levels s) (frame e (getD m (onFrom first (n / 4)) 0) (phaseDue n) (lineDue m first n)) in
       ReadOn n (fallsIn (e ∷ edges (levels s) rest)) (runP (q .port) (map levels rest)) (told (q .upshot) ∷ trace (q .port) (map levels rest))
 
-  -- one that asks for no bit leaves all as it was
+  -- one that asks for a bit: the frame goes on as after one more
   module _ (l : Levels) (n s : ℕ) (rest : List ℕ) where
     abbrev falls : ℕ
     falls = fallsIn (edges (levels s) rest)
@@ -124,11 +131,8 @@ module _ (m : List ℕ) (size : length m ≡ 32) (first : ℕ) where
   reads-on (s ∷ ss) l n low v =
       let now = low-levels s (v .1) in
       let on = reads-on ss (levels s) n now (v .2) in
-      by-edge (ReadsBy l n s ss)
-      (record { memory = on .memory; line = on .line; offers = on .offers; plain = (tt, on .plain) })
-      (λ bit. record { memory = on .memory; line = on .line; offers = on .offers; plain = (tt, on .plain) })
-      (asked l n s ss (reads-on ss (levels s) (suc n) now (v .2)))
-      (record { memory = on .memory; line = on .line; offers = on .offers; plain = (tt, on .plain) })
+      by-edge (ReadsBy l n s ss) (read-more n _ _ _ Clash refl tt on) (λ bit. read-more n _ _ _ Stray refl tt on)
+      (asked l n s ss (reads-on ss (levels s) (suc n) now (v .2))) (read-more n _ _ _ Nothing refl tt on)
       l (levels s) low now
 
 -- ---- a write
@@ -185,6 +189,12 @@ pub record WriteOn (m : List ℕ) (at : ℕ) (nibbles : List ℕ) (since : ℕ) 
   pub plain : Plain answers
   pub stands : StandsAt (left .phase) (onFrom at (length nibbles)) (since % 4)
 
+-- with one more answer in front, which stores and obeys nothing
+write-more : (m : List ℕ) (at : ℕ) (ns : List ℕ) (since : ℕ) (left : Port) (answers : List Answer) (answer : Answer)
+    → eqb (answerNumber answer) 5 ≡ false → Unobeyed (act answer) → WriteOn m at ns since left answers → WriteOn m at ns since left (answer ∷ answers)
+write-more m at ns since left answers answer other plain on =
+    record { memory = on .memory; stores = rw other (on .stores); plain = (plain, on .plain); stands = on .stands }
+
 abbrev WritesOn : List ℕ → ℕ → List ℕ → ℕ → List ℕ → Port → Type 0
 WritesOn m at nibbles since rest p = WriteOn m at nibbles since (runP p (map levels rest)) (trace p (map levels rest))
 
@@ -206,15 +216,9 @@ module _ (m : List ℕ) (l : Levels) (s : ℕ) (rest : List ℕ) (at falls : ℕ
     -- a bit completes a nibble where three came before it
     bit-taken : (bits : List Bool) (bit : Bool) → length bits ≤ 3 → WritesBy bits (Takes bit)
     unfolding frame taken nibbleTaken memoryAfter
-    bit-taken [] bit h =
-        let further = on m (levels s) (bit ∷ []) at falls Released now (omega arith) in
-        record { memory = further .memory; stores = further .stores; plain = (tt, further .plain); stands = further .stands }
-    bit-taken (a ∷ []) bit h =
-        let further = on m (levels s) (a ∷ bit ∷ []) at falls Released now (omega arith) in
-        record { memory = further .memory; stores = further .stores; plain = (tt, further .plain); stands = further .stands }
-    bit-taken (a ∷ b ∷ []) bit h =
-        let further = on m (levels s) (a ∷ b ∷ bit ∷ []) at falls Released now (omega arith) in
-        record { memory = further .memory; stores = further .stores; plain = (tt, further .plain); stands = further .stands }
+    bit-taken [] bit h = write-more m at _ _ _ _ Taken refl tt (on m (levels s) (bit ∷ []) at falls Released now (omega arith))
+    bit-taken (a ∷ []) bit h = write-more m at _ _ _ _ Taken refl tt (on m (levels s) (a ∷ bit ∷ []) at falls Released now (omega arith))
+    bit-taken (a ∷ b ∷ []) bit h = write-more m at _ _ _ _ Taken refl tt (on m (levels s) (a ∷ b ∷ bit ∷ []) at falls Released now (omega arith))
     bit-taken (a ∷ b ∷ c ∷ []) bit h =
         let n = nibbleOf (bitNumber a) (bitNumber b) (bitNumber c) (bitNumber bit) in
         let ns = nibblesOf (bitsIn (edges (levels s) rest)) in
@@ -249,9 +253,9 @@ module _ (m : List ℕ) (l : Levels) (s : ℕ) (rest : List ℕ) (at falls : ℕ
         WritesOn m at (nibblesOf (bits ++ bitsIn (edges (levels s) rest))) (fallsSince (length bits) (falls + 1) (edges (levels s) rest)) rest
         (record { memory = m; levels = levels s; phase = Writing (length bits) (withBits 0 bits) (at % 64) position; line = shown })) (sym round)
         (on m (levels s) bits at (falls + 1) shown now h) in (
-          record { memory = still .memory; stores = still .stores; plain = (tt, still .plain); stands = still .stands },
-          record { memory = read .memory; stores = read .stores; plain = (tt, read .plain); stands = read .stands },
-          record { memory = still .memory; stores = still .stores; plain = (tt, still .plain); stands = still .stands },
+          write-more m at _ _ _ _ Clash refl tt still,
+          write-more m at _ _ _ _ (Offered (at % 64) (bitAt (falls % 4) (getD m (at % 64) 0))) refl tt read,
+          write-more m at _ _ _ _ Nothing refl tt still,
         )
 
 pub writes-on : (rest : List ℕ) → CsLow rest → WritesFrom rest

@@ -70,7 +70,7 @@ after-through c (sample s ∷ es) v =
 
 -- ---- no command among the answers
 
-abbrev Unobeyed : Act → Type 0
+abbrev pub Unobeyed : Act → Type 0
 Unobeyed Keep = Unit {0}
 Unobeyed (Store at nibble) = Unit {0}
 Unobeyed (Obey code) = ⊥
