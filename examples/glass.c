@@ -40,11 +40,11 @@ int main(void)
     uint8_t memory[HT1621_ADDRESSES] = {0}, chip[HT1621_RECORD_BYTES], stream[HT1621_STREAM_BYTES(HT1621_ADDRESSES)];
     uint8_t noted[4 * HT1621_ADDRESSES], nibbles[HT1621_ADDRESSES], cells[HT1621_ADDRESSES];
 
-    uint32_t result = ht1621_power_on(memory, sizeof memory, chip, sizeof chip);
+    uint32_t result = ht1621_power_on(HT1621_PART_HT, memory, sizeof memory, chip, sizeof chip);
     if (HT1621_POWER_ON_REFUSED(result))
         stop("power-on", result);
 
-    result = ht1621_commands(start, sizeof start, stream, sizeof stream);
+    result = ht1621_commands(HT1621_PART_HT, start, sizeof start, stream, sizeof stream);
     if (HT1621_COMMANDS_REFUSED(result))
         stop("commands", result);
     put(chip, stream, result, NULL);

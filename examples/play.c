@@ -71,7 +71,7 @@ int main(void)
     uint8_t stream[HT1621_STREAM_BYTES(HT1621_ADDRESSES)], noted[4 * HT1621_ADDRESSES];
     for (size_t i = 0; i < sizeof picture; i++)
         picture[i] = (uint8_t)(i * 7 % 16);
-    ht1621_power_on(memory, sizeof memory, chip, sizeof chip);
+    ht1621_power_on(HT1621_PART_HT, memory, sizeof memory, chip, sizeof chip);
 
     uint32_t samples = ht1621_write(0, picture, sizeof picture, stream, sizeof stream);
     if (HT1621_WRITE_REFUSED(samples))

@@ -1,4 +1,4 @@
-/* The HT1621 pack: the numbers that its calls for C share. C99 and C++.
+/* The HT1621 pack: the numbers that its calls for C share. C99 and C++. The chip is an HT1621 or a GN1621.
 
    ht1621_chip.h has the chip and ht1621_host.h the side that drives it: eight calls, in the archive libht1621.a.
    ht1621_simulator.h has the chip's three calls under the plain names that they have in the archive libsimulator.a.
@@ -7,8 +7,17 @@
 #ifndef HT1621_H
 #define HT1621_H
 
-#define HT1621_VERSION "4.0.0"
-#define HT1621_VERSION_NUMBER 40000 /* 10,000 x 4 + 100 x 0 + 0, to compare with */
+#define HT1621_VERSION "5.0.0"
+#define HT1621_VERSION_NUMBER 50000 /* 10,000 x 5 + 100 x 0 + 0, to compare with */
+
+/* ---- parts ---- */
+
+/* Which chip it is: ht1621_power_on and ht1621_commands are told it, and a state record has it in a byte of its own. The two differ in
+   the codes of one command, CLR TIMER, and in how long they scan a common; a stream that writes or reads does for either. */
+enum {
+    HT1621_PART_HT = 0, /* HT1621 */
+    HT1621_PART_GN = 1  /* GN1621 */
+};
 
 /* ---- samples and answers ---- */
 
@@ -53,11 +62,13 @@ enum {
     HT1621_WDT_EN = 0x07,    /* time base on, and its time-out flag to IRQ */
     HT1621_TONE_OFF = 0x08,
     HT1621_TONE_ON = 0x09,
-    HT1621_CLR_TIMER = 0x0C,
+    HT1621_CLR_TIMER = 0x0C, /* of an HT1621; for a GN1621 take the next one */
+    HT1621_GN_CLR_TIMER = 0x0A, /* of a GN1621 */
     HT1621_CLR_WDT = 0x0E,   /* clears the time base too */
     HT1621_XTAL = 0x14,      /* the clock: a crystal of 32.768 kHz */
     HT1621_RC = 0x18,        /* the chip's own 256 kHz */
     HT1621_EXT = 0x1C,       /* 256 kHz from outside */
+    /* each of these six begins the scan anew, also where the commons stay as they were */
     HT1621_BIAS_2_2 = 0x20,  /* bias 1/2 with 2, 3, 4 commons */
     HT1621_BIAS_2_3 = 0x24,
     HT1621_BIAS_2_4 = 0x28,
@@ -88,7 +99,7 @@ enum {
     HT1621_NOTHING_ASKED = 21,     /* no nibble or no command */
     HT1621_ADDRESS_ABOVE = 22,     /* a first address above 31: those of the memory are 0 to 31 */
     HT1621_NIBBLE_ABOVE = 23,      /* a nibble above 15, with its place */
-    HT1621_UNDEFINED_COMMAND = 24, /* with its place */
+    HT1621_UNDEFINED_COMMAND = 24, /* in the part that was told, with its place */
     HT1621_OUTPUT_SHORT = 25,      /* an output shorter than needed */
     HT1621_NOTED_COUNT = 26,       /* a number of noted bytes that is none of 4, 8 .. 128 */
     HT1621_NOTED_ABOVE = 27,       /* a noted byte above 1, with its place */
@@ -96,7 +107,8 @@ enum {
     HT1621_MEMORY_COUNT = 29,      /* a power-on memory that is not 32 values */
     HT1621_RUNS_PAST_END = 30,     /* a first address from 0 to 31, but first + count above 32: the run would pass address 31, and it
                                       does not go on at 0 */
-    HT1621_TOO_MANY_COMMANDS = 31  /* more than 32 commands for one stream: give the others in a second call */
+    HT1621_TOO_MANY_COMMANDS = 31, /* more than 32 commands for one stream: give the others in a second call */
+    HT1621_UNKNOWN_PART = 43       /* a part that is neither HT1621_PART_HT nor HT1621_PART_GN */
 };
 
 /* Whether what a call returned is a refusal: a test for each call, since a step's answers, the pins and a number of bytes are told
@@ -149,7 +161,11 @@ enum {
     HT1621_AT_B = 55,          /* modulo 256 */
     HT1621_AT_W = 56,          /* modulo 4 */
     HT1621_AT_TEST = 57,       /* switch */
-    HT1621_AT_ZEROS = 58       /* 6 bytes of 0 */
+    HT1621_AT_PART = 58,       /* HT1621_PART_HT or HT1621_PART_GN. With zeros from here on a record is of an HT1621 with its scan at the
+                                  beginning. Who changes this byte or the commons sets the two after it to 0 */
+    HT1621_AT_SCAN = 59,       /* the scan's counter: modulo 128 in an HT1621, modulo 96 in a GN1621 */
+    HT1621_AT_COMMON = 60,     /* the common now scanned, below the byte HT1621_AT_COMMONS */
+    HT1621_AT_ZEROS = 61       /* zeros from here to HT1621_RECORD_BYTES */
 };
 
 #endif

@@ -30,7 +30,8 @@ uint32_t ht1621_step(uint8_t *record, size_t record_bytes, uint8_t sample);
 #define HT1621_STEP_SECOND(result) ((result) >> 16 & 255u)
 
 /* Lets so many ticks of the clock pass, one after the other, and returns 0. A tick is one period of the clock that is selected: of 32,768
-   in a second with XTAL, of 256,000 with RC (as at power-on) or EXT, where eight ticks do what one does with XTAL. While the chip does not
+   in a second with XTAL, of 256,000 with RC (as at power-on) or EXT, where eight ticks do what one does with XTAL. Ticks move the counters,
+   and the scan (bytes 59 and 60) with the LCD on or off. While the chip does not
    run (system off, and not EXT) a tick changes nothing. C cuts a number above 65,535 to its low sixteen bits, 65,536 to 0: a second takes
    several calls at 256 kHz.
    Refused (HT1621_ADVANCE_REFUSED): HT1621_MALFORMED. Stack: at most 256 bytes. */

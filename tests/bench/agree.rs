@@ -1,5 +1,5 @@
 // The four have to agree before they are timed: on random calls, and on the captures.
-use crate::inputs::{capture, power_on, CODES};
+use crate::inputs::{capture, codes, power_on, with, GN, HT, PART};
 use crate::packs::{self, packs, Pack, NAMES};
 use std::fmt::Debug;
 use std::process::exit;
@@ -83,24 +83,36 @@ fn long_frame(random: &mut Random) -> Vec<u8> {
     samples
 }
 
-// Random calls of the host's side, at and beyond their limits, whose streams are stepped through, and long frames.
+// Random calls of the host's side, at and beyond their limits, whose streams are stepped through, and long frames: chips of
+// the two parts in turn, and mostly commands to the part that the chip is of.
 pub fn agree_calls(seed: u64) {
     let random = &mut Random(seed);
     let mut record = power_on().to_vec();
-    for _ in 0..3000 {
+    for round in 0..3000 {
+        if round % 50 == 0 {
+            record = with(&[(PART, (round / 50 % 2) as u8)], power_on()).to_vec();
+        }
         let (first, count) = (random.below(34) as usize, random.below(35));
         let beyond = random.below(20) / 19; // seldom 1
         let values = random.bytes(count, 15 + beyond);
         let odd = random.below(8) / 7;
         let bits = random.bytes(4 * count + odd, 1 + beyond);
-        let codes: Vec<u8> = (0..count).map(|_| CODES[random.below(32) as usize]).collect();
+        let part = match random.below(40) {
+            0 => HT,
+            1 => GN,
+            2 => 2 + random.below(300) as usize,
+            3 => usize::MAX,
+            _ => record[PART] as usize,
+        };
+        let defined = codes(part);
+        let asked: Vec<u8> = (0..count).map(|_| defined[random.below(32) as usize]).collect();
         let any = random.bytes(count.min(2), 255);
         let room = if random.below(4) == 0 { random.below(600) as usize } else { 600 };
         let made = [
             same("write", |pack| out_of(room, |out| pack.write(first, &values, out))),
             same("read", |pack| out_of(room, |out| pack.read(first, count as usize, out))),
-            same("commands", |pack| out_of(room, |out| pack.commands(&codes, out))),
-            same("commands", |pack| out_of(room, |out| pack.commands(&any, out))),
+            same("commands", |pack| out_of(room, |out| pack.commands(part, &asked, out))),
+            same("commands", |pack| out_of(room, |out| pack.commands(part, &any, out))),
             same("decode", |pack| out_of(room / 8, |out| pack.decode(&bits, out))),
         ];
         for (answer, bytes) in &made[..4] {

@@ -8,7 +8,9 @@ mod packs;
 mod plain;
 mod stack;
 
-use inputs::{above, capture, frames, mixed, nibbles, noted, power_on, with, CODES, RATE, RUNS, SOURCE};
+use inputs::{
+    above, capture, commands_of, frames, mixed, nibbles, noted, power_on, with, CODES, GN, HT, PART, RATE, RUNS, SOURCE,
+};
 use packs::{packs, Pack, NAMES};
 use std::hint::black_box;
 use std::process::exit;
@@ -86,7 +88,11 @@ fn calls(name: &str, start: [u8; 64], call: impl Fn(&Pack, &mut Lab) -> u32 + 's
 }
 
 fn steps(name: &str, samples: Vec<u8>) -> Job {
-    job(name, samples.len(), power_on(), move |pack, lab| {
+    steps_from(name, power_on(), samples)
+}
+
+fn steps_from(name: &str, start: [u8; 64], samples: Vec<u8>) -> Job {
+    job(name, samples.len(), start, move |pack, lab| {
         for &sample in &samples {
             lab.sum = lab.sum.wrapping_add(pack.step(&mut lab.record, sample));
         }
@@ -123,7 +129,7 @@ fn reads(count: usize) -> Job {
 }
 
 fn commands(count: usize) -> Job {
-    calls(&format!("commands, {count}"), power_on(), move |pack, lab| pack.commands(&CODES[..count], &mut lab.out))
+    calls(&format!("commands, {count}"), power_on(), move |pack, lab| pack.commands(HT, &CODES[..count], &mut lab.out))
 }
 
 fn decodes(count: usize) -> Job {
@@ -154,6 +160,8 @@ fn jobs() -> Vec<Job> {
     let xtal = with(&[(SOURCE, 0)], with(&RUNS, power_on()));
     let slow = with(&[(RATE, 0)], xtal);
     let rc = with(&RUNS, power_on());
+    let gn = with(&[(PART, GN as u8)], power_on());
+    let gn_xtal = with(&[(PART, GN as u8)], xtal);
     let shown = with(&[(42, 1), (44, 4), (45, 1), (47, 1), (50, 1)], rc);
     let mut all = vec![
         steps("step, frames mixed", mixed()),
@@ -163,6 +171,7 @@ fn jobs() -> Vec<Job> {
         steps("step, a read frame", read.clone()),
         steps("step, a read above 31", above(read)),
         steps("step, a command frame", command),
+        steps_from("step, a command frame, GN", gn, commands_of(GN, 32)),
         calls("step, refused 20", power_on(), |pack, lab| pack.step(&mut lab.record, 16)),
         calls("step, refused 28 (byte 0)", with(&[(0, 16)], power_on()), |pack, lab| pack.step(&mut lab.record, 15)),
         calls("step, refused 28 (byte 63)", with(&[(63, 1)], power_on()), |pack, lab| pack.step(&mut lab.record, 15)),
@@ -170,7 +179,9 @@ fn jobs() -> Vec<Job> {
         calls("pins, not running", power_on(), |pack, lab| pack.pins(&lab.record, &mut lab.out)),
     ];
     for ticks in [1, 256, 65535] {
-        for (how, start) in [("XTAL", xtal), ("XTAL, F1", slow), ("RC", rc), ("not running", power_on())] {
+        for (how, start) in
+            [("XTAL", xtal), ("XTAL, F1", slow), ("XTAL, GN", gn_xtal), ("RC", rc), ("not running", power_on())]
+        {
             all.push(advances(&format!("advance {ticks}, {how}"), start, ticks));
         }
     }

@@ -3,8 +3,12 @@ use crate::packs::packs;
 
 pub const SOURCE: usize = 41;
 pub const RATE: usize = 48;
+pub const PART: usize = 58;
+pub const HT: usize = 0;
+pub const GN: usize = 1;
 pub const RUNS: [(usize, u8); 2] = [(40, 1), (49, 1)]; // system and time base on
 
+// An HT at power-on.
 pub fn power_on() -> [u8; 64] {
     with(&[(32, 15), (SOURCE, 1), (43, 2), (44, 2), (46, 4), (RATE, 7)], [0; 64])
 }
@@ -19,6 +23,11 @@ pub const CODES: [u8; 32] = [
     0x01, 0x18, 0x29, 0x03, 0x06, 0x88, 0xa7, 0x09, 0x40, 0x0d, 0x07, 0x0f, 0x80, 0x60, 0x08, 0xa3, 0x05, 0x04, 0x14,
     0x24, 0xe3, 0x02, 0x00, 0x01, 0x1c, 0x2b, 0x5f, 0x9f, 0xbf, 0xe0, 0x18, 0x03,
 ];
+
+// The same for a part: CLR TIMER has another code in a GN.
+pub fn codes(part: usize) -> [u8; 32] {
+    CODES.map(|code| if part == GN && code == 0x0d { 0x0b } else { code })
+}
 
 // The nibbles of the timed writes, and bits as a host notes them.
 pub fn nibbles() -> Vec<u8> {
@@ -40,8 +49,12 @@ pub fn frames(count: usize) -> [Vec<u8>; 3] {
     [
         stream(|out| pack.write(0, &nibbles()[..count], out)),
         stream(|out| pack.read(0, count, out)),
-        stream(|out| pack.commands(&CODES[..count], out)),
+        commands_of(HT, count),
     ]
+}
+
+pub fn commands_of(part: usize, count: usize) -> Vec<u8> {
+    stream(|out| packs()[0].commands(part, &codes(part)[..count], out))
 }
 
 // The frame 32 addresses further on, where there is no memory: A5, the fourth bit sent, is 1.

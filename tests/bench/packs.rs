@@ -16,7 +16,7 @@ pub struct Pack {
     pins: Turn,
     write: unsafe extern "C" fn(usize, *const u8, usize, *mut u8, usize) -> u32,
     read: unsafe extern "C" fn(usize, usize, *mut u8, usize) -> u32,
-    commands: Turn,
+    commands: unsafe extern "C" fn(usize, *const u8, usize, *mut u8, usize) -> u32,
     decode: Turn,
     listing: Listing,
     formatted: Listing, // with printf's formatting where it is C
@@ -38,8 +38,8 @@ impl Pack {
     pub fn read(&self, first: usize, count: usize, out: &mut [u8]) -> u32 {
         unsafe { (self.read)(first, count, out.as_mut_ptr(), out.len()) }
     }
-    pub fn commands(&self, codes: &[u8], out: &mut [u8]) -> u32 {
-        unsafe { (self.commands)(codes.as_ptr(), codes.len(), out.as_mut_ptr(), out.len()) }
+    pub fn commands(&self, part: usize, codes: &[u8], out: &mut [u8]) -> u32 {
+        unsafe { (self.commands)(part, codes.as_ptr(), codes.len(), out.as_mut_ptr(), out.len()) }
     }
     pub fn decode(&self, noted: &[u8], out: &mut [u8]) -> u32 {
         unsafe { (self.decode)(noted.as_ptr(), noted.len(), out.as_mut_ptr(), out.len()) }
@@ -123,7 +123,7 @@ extern "C" {
     fn pins(record: *const u8, bytes: usize, cells: *mut u8, room: usize) -> u32;
     fn ht1621_write(first: usize, nibbles: *const u8, n: usize, out: *mut u8, room: usize) -> u32;
     fn ht1621_read(first: usize, count: usize, out: *mut u8, room: usize) -> u32;
-    fn ht1621_commands(codes: *const u8, count: usize, out: *mut u8, room: usize) -> u32;
+    fn ht1621_commands(part: usize, codes: *const u8, count: usize, out: *mut u8, room: usize) -> u32;
     fn ht1621_decode(noted: *const u8, count: usize, out: *mut u8, room: usize) -> u32;
     fn listing_main() -> i32; // the program's main, which calls listing_read and listing_write
 }
@@ -171,8 +171,8 @@ unsafe extern "C" fn rust_write(first: usize, nibbles: *const u8, count: usize, 
 unsafe extern "C" fn rust_read(first: usize, count: usize, out: *mut u8, room: usize) -> u32 {
     plain::read(first, count, lent_mut(out, room))
 }
-unsafe extern "C" fn rust_commands(c: *const u8, count: usize, out: *mut u8, room: usize) -> u32 {
-    plain::commands(lent(c, count), lent_mut(out, room))
+unsafe extern "C" fn rust_commands(part: usize, c: *const u8, count: usize, out: *mut u8, room: usize) -> u32 {
+    plain::commands(part, lent(c, count), lent_mut(out, room))
 }
 unsafe extern "C" fn rust_decode(n: *const u8, count: usize, out: *mut u8, room: usize) -> u32 {
     plain::decode(lent(n, count), lent_mut(out, room))

@@ -15,6 +15,9 @@ enum { NO_SOURCE, TIME_BASE, FLAG };
 
 /* ---- the record ---- */
 
+/* How many base ticks a common is scanned, by the part. */
+static const uint8_t scanned[2] = {[HT1621_PART_HT] = 128, [HT1621_PART_GN] = 96};
+
 static unsigned value_in(const uint8_t *r) { return r[HT1621_AT_VALUE] + 256u * r[HT1621_AT_VALUE + 1]; }
 
 static int valid(const uint8_t *r, size_t bytes)
@@ -25,7 +28,7 @@ static int valid(const uint8_t *r, size_t bytes)
         15, 7, 8, 255, 255, HT1621_FRAME_ADDRESSES - 1, 3, 2,           /* lines to DATA */
         1, 2, 1, 3, 4, 1, 4, 1,                                         /* system to the IRQ output */
         7, 1, 2, 1, 7, 15, 127, 255,                                    /* r to b */
-        3, 1, 0, 0, 0, 0, 0, 0,
+        3, 1, HT1621_PART_GN, 127, 3, 0, 0, 0,                          /* w to the zeros */
     };
     static const uint8_t most_bits[8] = {0, 2, 5, 5, 0, 3, 8, 0};
     unsigned phase;
@@ -38,6 +41,8 @@ static int valid(const uint8_t *r, size_t bytes)
     if (r[HT1621_AT_BIAS] < 2 || r[HT1621_AT_COMMONS] < 2)
         return 0;
     if (r[HT1621_AT_PITCH] != 4 && r[HT1621_AT_PITCH] != 2)
+        return 0;
+    if (r[HT1621_AT_SCAN] >= scanned[r[HT1621_AT_PART]] || r[HT1621_AT_COMMON] >= r[HT1621_AT_COMMONS])
         return 0;
     phase = r[HT1621_AT_PHASE];
     if ((phase == NO_FRAME) != (r[HT1621_AT_LINES] & HT1621_CS))
@@ -60,16 +65,20 @@ enum {
 #define EIGHT(c) FOUR(c), FOUR(c)
 #define SIXTEEN(c) EIGHT(c), EIGHT(c)
 
-/* By the upper eight of a command's nine bits. */
-static const uint8_t meaning[256] = {
-    SYS_DIS, SYS_EN, LCD_OFF, LCD_ON, TIM_DIS, WDT_DIS, TIM_EN, WDT_EN,                  /* 00 */
-    TON_OFF, TON_ON, NONE, NONE, CLR_TIM, CLR_TIM, CLR_WDT, CLR_WDT,                     /* 08 */
-    FOUR(NONE), FOUR(XTAL_32), FOUR(RC_256), FOUR(EXT_256),                              /* 10 */
-    EIGHT(BIAS), FOUR(BIAS), FOUR(NONE), SIXTEEN(NONE),                                  /* 20, 30 */
-    SIXTEEN(TONE_4K), SIXTEEN(TONE_4K), SIXTEEN(TONE_2K), SIXTEEN(TONE_2K),              /* 40 to 70 */
-    EIGHT(IRQ_DIS), EIGHT(IRQ_EN), EIGHT(IRQ_DIS), EIGHT(IRQ_EN),                        /* 80, 90 */
-    SIXTEEN(RATE), SIXTEEN(RATE), SIXTEEN(NONE), SIXTEEN(NONE),                          /* A0 to D0 */
-    TEST, NONE, NONE, NORMAL, FOUR(NONE), EIGHT(NONE), SIXTEEN(NONE),                    /* E0, F0 */
+/* By the part, and by the upper eight of a command's nine bits. The parts differ in 0A to 0D alone. */
+#define MEANINGS(at_0a, at_0c) {                                                                                  \
+    SYS_DIS, SYS_EN, LCD_OFF, LCD_ON, TIM_DIS, WDT_DIS, TIM_EN, WDT_EN,                  /* 00 */                 \
+    TON_OFF, TON_ON, at_0a, at_0a, at_0c, at_0c, CLR_WDT, CLR_WDT,                       /* 08 */                 \
+    FOUR(NONE), FOUR(XTAL_32), FOUR(RC_256), FOUR(EXT_256),                              /* 10 */                 \
+    EIGHT(BIAS), FOUR(BIAS), FOUR(NONE), SIXTEEN(NONE),                                  /* 20, 30 */             \
+    SIXTEEN(TONE_4K), SIXTEEN(TONE_4K), SIXTEEN(TONE_2K), SIXTEEN(TONE_2K),              /* 40 to 70 */           \
+    EIGHT(IRQ_DIS), EIGHT(IRQ_EN), EIGHT(IRQ_DIS), EIGHT(IRQ_EN),                        /* 80, 90 */             \
+    SIXTEEN(RATE), SIXTEEN(RATE), SIXTEEN(NONE), SIXTEEN(NONE),                          /* A0 to D0 */           \
+    TEST, NONE, NONE, NORMAL, FOUR(NONE), EIGHT(NONE), SIXTEEN(NONE),                    /* E0, F0 */             \
+}
+static const uint8_t meaning[2][256] = {
+    [HT1621_PART_HT] = MEANINGS(NONE, CLR_TIM),
+    [HT1621_PART_GN] = MEANINGS(CLR_TIM, NONE),
 };
 
 static void set_irq_source(uint8_t *r, int base, int source)
@@ -87,7 +96,7 @@ static uint32_t obey(uint8_t *r, uint8_t code)
 {
     unsigned source = r[HT1621_AT_IRQ_SOURCE];
 
-    switch (meaning[code]) {
+    switch (meaning[r[HT1621_AT_PART]][code]) {
     case NONE: return answer(HT1621_COMMAND_UNDEFINED, code, 0);
     case SYS_DIS:
         if (r[HT1621_AT_SOURCE] != EXT)
@@ -110,6 +119,7 @@ static uint32_t obey(uint8_t *r, uint8_t code)
     case BIAS:
         r[HT1621_AT_BIAS] = 2 + (code & 1);
         r[HT1621_AT_COMMONS] = 2 + (code >> 2 & 3);
+        r[HT1621_AT_SCAN] = r[HT1621_AT_COMMON] = 0;
         break;
     case TONE_4K: r[HT1621_AT_PITCH] = 4; break;
     case TONE_2K: r[HT1621_AT_PITCH] = 2; break;
@@ -234,6 +244,10 @@ static void tick(uint8_t *r)
             return;
     }
     r[HT1621_AT_Q] = (r[HT1621_AT_Q] + 1) % 16;
+    if (++r[HT1621_AT_SCAN] == scanned[r[HT1621_AT_PART]]) {
+        r[HT1621_AT_SCAN] = 0;
+        r[HT1621_AT_COMMON] = (r[HT1621_AT_COMMON] + 1) % r[HT1621_AT_COMMONS];
+    }
     if (!r[HT1621_AT_BASE])
         return;
     r[HT1621_AT_D] = (r[HT1621_AT_D] + 1) % 128;
@@ -345,16 +359,18 @@ static uint32_t plain_read(size_t first, size_t count, uint8_t *out, size_t room
     return (uint32_t)(at - out);
 }
 
-static uint32_t plain_commands(const uint8_t *codes, size_t count, uint8_t *out, size_t room)
+static uint32_t plain_commands(size_t part, const uint8_t *codes, size_t count, uint8_t *out, size_t room)
 {
     uint8_t *at = out;
 
+    if (part > HT1621_PART_GN)
+        return refused(HT1621_UNKNOWN_PART, 0);
     if (count == 0)
         return refused(HT1621_NOTHING_ASKED, 0);
     if (count > 32)
         return refused(HT1621_TOO_MANY_COMMANDS, 0);
     for (size_t i = 0; i < count; i++)
-        if (meaning[codes[i]] == NONE)
+        if (meaning[part][codes[i]] == NONE)
             return refused(HT1621_UNDEFINED_COMMAND, i);
     if (room < 9 + 18 * count)
         return refused(HT1621_OUTPUT_SHORT, 0);
@@ -463,7 +479,7 @@ const struct {
     uint32_t (*pins)(const uint8_t *, size_t, uint8_t *, size_t);
     uint32_t (*write)(size_t, const uint8_t *, size_t, uint8_t *, size_t);
     uint32_t (*read)(size_t, size_t, uint8_t *, size_t);
-    uint32_t (*commands)(const uint8_t *, size_t, uint8_t *, size_t);
+    uint32_t (*commands)(size_t, const uint8_t *, size_t, uint8_t *, size_t);
     uint32_t (*decode)(const uint8_t *, size_t, uint8_t *, size_t);
     void (*listing)(get_bytes, put_bytes);
     void (*formatted)(get_bytes, put_bytes);

@@ -28,6 +28,9 @@ const D: usize = 54;
 const B: usize = 55;
 const W: usize = 56;
 const TEST: usize = 57;
+const PART: usize = 58;
+const SCAN: usize = 59;
+const COMMON: usize = 60;
 
 // A frame's addresses, and those of them that the memory has.
 const ADDRESSES: u8 = 64;
@@ -37,9 +40,18 @@ const HELD: u8 = 32;
 
 const MOST: Record = [
     15, 15, 15, 15, 15, 15, 15, 15, 15, 15, 15, 15, 15, 15, 15, 15, 15, 15, 15, 15, 15, 15, 15, 15, 15, 15, 15, 15, 15,
-    15, 15, 15, 15, 7, 8, 255, 255, 63, 3, 2, 1, 2, 1, 3, 4, 1, 4, 1, 7, 1, 2, 1, 7, 15, 127, 255, 3, 1, 0, 0, 0, 0, 0,
-    0,
+    15, 15, 15, 15, 7, 8, 255, 255, 63, 3, 2, 1, 2, 1, 3, 4, 1, 4, 1, 7, 1, 2, 1, 7, 15, 127, 255, 3, 1, 1, 127, 3, 0,
+    0, 0,
 ];
+
+// How many base ticks a common is scanned.
+fn scanned(part: u8) -> u8 {
+    if part == 0 {
+        128
+    } else {
+        96
+    }
+}
 
 fn value_in(r: &Record) -> u16 {
     u16::from_le_bytes([r[VALUE], r[VALUE + 1]])
@@ -48,6 +60,9 @@ fn value_in(r: &Record) -> u16 {
 fn valid(r: &Record) -> bool {
     let in_range = r.iter().zip(&MOST).all(|(byte, most)| byte <= most);
     if !in_range || r[BIAS] < 2 || r[COMMONS] < 2 || !matches!(r[PITCH], 2 | 4) {
+        return false;
+    }
+    if r[SCAN] >= scanned(r[PART]) || r[COMMON] >= r[COMMONS] {
         return false;
     }
     if (r[PHASE] == 0) != (r[LINES] % 2 == 1) {
@@ -62,12 +77,16 @@ fn valid(r: &Record) -> bool {
 
 // ---- commands ----
 
-fn defined(code: u8) -> bool {
-    matches!(code, 0x00..=0x09 | 0x0c..=0x0f | 0x14..=0x2b | 0x40..=0xbf | 0xe0 | 0xe3)
+fn defined(part: u8, code: u8) -> bool {
+    match code {
+        0x0a | 0x0b => part == 1,
+        0x0c | 0x0d => part == 0,
+        _ => matches!(code, 0x00..=0x0f | 0x14..=0x2b | 0x40..=0xbf | 0xe0 | 0xe3),
+    }
 }
 
 fn obey(r: &mut Record, code: u8) -> u32 {
-    if !defined(code) {
+    if !defined(r[PART], code) {
         return answer(7, code, 0);
     }
     match code {
@@ -85,10 +104,10 @@ fn obey(r: &mut Record, code: u8) -> u32 {
         }
         0x06 | 0x07 => (r[BASE], r[IRQ_SOURCE]) = (1, code - 5),
         0x08 | 0x09 => r[TONE] = code % 2,
-        0x0c | 0x0d => (r[D], r[B]) = (0, 0),
+        0x0a..=0x0d => (r[D], r[B]) = (0, 0),
         0x0e | 0x0f => (r[D], r[B], r[W], r[FLAG]) = (0, 0, 0, 0),
         0x14..=0x1f => r[SOURCE] = (code - 0x14) / 4,
-        0x20..=0x2b => (r[BIAS], r[COMMONS]) = (2 + code % 2, 2 + code / 4 % 4),
+        0x20..=0x2b => (r[BIAS], r[COMMONS], r[SCAN], r[COMMON]) = (2 + code % 2, 2 + code / 4 % 4, 0, 0),
         0x40..=0x5f => r[PITCH] = 4,
         0x60..=0x7f => r[PITCH] = 2,
         0x80..=0x87 | 0x90..=0x97 => (r[IRQ], r[FLAG]) = (0, 0),
@@ -229,6 +248,11 @@ fn tick(r: &mut Record) {
         }
     }
     r[Q] = (r[Q] + 1) % 16;
+    r[SCAN] += 1;
+    if r[SCAN] == scanned(r[PART]) {
+        r[SCAN] = 0;
+        r[COMMON] = if r[COMMON] + 1 == r[COMMONS] { 0 } else { r[COMMON] + 1 };
+    }
     if r[BASE] == 0 {
         return;
     }
@@ -359,14 +383,17 @@ pub fn read(first: usize, count: usize, out: &mut [u8]) -> u32 {
     stream.closed()
 }
 
-pub fn commands(codes: &[u8], out: &mut [u8]) -> u32 {
+pub fn commands(part: usize, codes: &[u8], out: &mut [u8]) -> u32 {
+    if part > 1 {
+        return refused(43, 0);
+    }
     if codes.is_empty() {
         return refused(21, 0);
     }
     if codes.len() > 32 {
         return refused(31, 0);
     }
-    if let Some(place) = codes.iter().position(|&code| !defined(code)) {
+    if let Some(place) = codes.iter().position(|&code| !defined(part as u8, code)) {
         return refused(24, place);
     }
     if out.len() < 9 + 18 * codes.len() {

@@ -72,10 +72,10 @@ static uint32_t library_call(const struct call *call, struct lent *in, struct le
     case STEP: return step(out->bytes, out->length, (uint8_t)call->first);
     case ADVANCE: return advance(out->bytes, out->length, (uint16_t)call->first);
     case PINS: return pins(in->bytes, in->length, out->bytes, out->length);
-    case POWER_ON: return ht1621_power_on(in->bytes, in->length, out->bytes, out->length);
+    case POWER_ON: return ht1621_power_on(call->first, in->bytes, in->length, out->bytes, out->length);
     case WRITE: return ht1621_write(call->first, in->bytes, in->length, out->bytes, out->length);
     case READ: return ht1621_read(call->first, call->second, out->bytes, out->length);
-    case COMMANDS: return ht1621_commands(in->bytes, in->length, out->bytes, out->length);
+    case COMMANDS: return ht1621_commands(call->first, in->bytes, in->length, out->bytes, out->length);
     default: return ht1621_decode(in->bytes, in->length, out->bytes, out->length);
     }
 }
@@ -203,7 +203,7 @@ static void next_call(void) {
     case PLAY: play(next_byte()); return;
     case SET: call.first = next_byte() % RECORD_MOST, record[call.first] = next_byte(); return;
     case LENGTH: record_bytes = next_byte() % (RECORD_MOST + 1); return;
-    default: next_bytes(&call);
+    default: call.first = next_number(), next_bytes(&call); /* POWER_ON and COMMANDS: the part comes first */
     }
     call_buffer(&call);
 }
@@ -212,7 +212,7 @@ int LLVMFuzzerTestOneInput(const uint8_t *data, size_t bytes);
 
 int LLVMFuzzerTestOneInput(const uint8_t *data, size_t bytes) {
     static const uint8_t zeros[HT1621_ADDRESSES];
-    struct call power_on = {POWER_ON, 0, 0, zeros, sizeof zeros, record, HT1621_RECORD_BYTES};
+    struct call power_on = {POWER_ON, HT1621_PART_HT, 0, zeros, sizeof zeros, record, HT1621_RECORD_BYTES};
     memset(record, 0, sizeof record);
     record_bytes = compared(&power_on);
     stream_bytes = played = noted_bytes = 0;

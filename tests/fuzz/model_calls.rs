@@ -28,10 +28,10 @@ pub unsafe extern "C" fn model_call(
         0 => due::step(out, first as u8),
         1 => due::advance(out, first as u16),
         2 => due::pins(lent, out),
-        3 => due::power_on(lent, out),
+        3 => due::power_on(first, lent, out),
         4 => due::write(first, lent, out),
         5 => due::read(first, second, out),
-        6 => due::commands(lent, out),
+        6 => due::commands(first, lent, out),
         _ => due::decode(lent, out),
     };
     out.copy_from_slice(&bytes);

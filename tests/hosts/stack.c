@@ -34,30 +34,49 @@ static void step_through(const uint8_t *samples, uint32_t count)
         ht1621_step(record, sizeof record, samples[i]);
 }
 
-static uint8_t write_stream[ROOM], read_stream[ROOM], command_stream[ROOM];
+static uint8_t write_stream[ROOM], read_stream[ROOM], command_stream[ROOM], gn_stream[ROOM];
 static uint8_t write_past[ROOM], read_past[ROOM]; /* with A5 set: past the memory */
-static uint32_t written, reading, commanding;
+static uint32_t written, reading, commanding, gn_commanding;
 static const uint8_t zeros[4 * HT1621_ADDRESSES];
 static const uint8_t commands[] = {
     HT1621_SYS_EN, HT1621_TIMER_EN, HT1621_WDT_EN, HT1621_TONE_ON, HT1621_BIAS_3_4, HT1621_CLR_WDT, HT1621_F1, HT1621_IRQ_EN};
+static const uint8_t gn_commands[] = {HT1621_GN_CLR_TIMER, HT1621_BIAS_2_2};
+
+/* Makes the record one of this part. */
+static void become(uint8_t part)
+{
+    record[HT1621_AT_PART] = part;
+    record[HT1621_AT_SCAN] = 0;
+}
 
 static void all_steps(void)
 {
-    step_through(write_stream, written);
-    step_through(read_stream, reading);
-    step_through(write_past, written);
-    step_through(read_past, reading);
-    step_through(command_stream, commanding);
+    for (uint8_t part = HT1621_PART_HT; part <= HT1621_PART_GN; part++) {
+        become(part);
+        step_through(write_stream, written);
+        step_through(read_stream, reading);
+        step_through(write_past, written);
+        step_through(read_past, reading);
+        step_through(command_stream, commanding);
+        step_through(gn_stream, gn_commanding);
+    }
     ht1621_step(record, sizeof record, 16);
     ht1621_step(record, 1, 0);
 }
 static void all_advances(void)
 {
-    for (uint32_t n = 0; n < 65536; n += 4369)
-        ht1621_advance(record, sizeof record, (uint16_t)n);
+    for (uint8_t part = HT1621_PART_HT; part <= HT1621_PART_GN; part++) {
+        become(part);
+        for (uint32_t n = 0; n < 65536; n += 4369)
+            ht1621_advance(record, sizeof record, (uint16_t)n);
+    }
 }
 static void all_pins(void) { ht1621_pins(record, sizeof record, out, sizeof out); }
-static void power_on(void) { ht1621_power_on(zeros, HT1621_ADDRESSES, record, sizeof record); }
+static void power_on(void)
+{
+    for (size_t part = HT1621_PART_HT; part <= HT1621_PART_GN + 1; part++)
+        ht1621_power_on(part, zeros, HT1621_ADDRESSES, record, sizeof record);
+}
 static void all_writes(void)
 {
     for (size_t n = 0; n <= HT1621_ADDRESSES; n++)
@@ -71,7 +90,8 @@ static void all_reads(void)
 static void all_commands(void)
 {
     for (size_t n = 0; n <= sizeof commands; n++)
-        ht1621_commands(commands, n, out, sizeof out);
+        for (size_t part = HT1621_PART_HT; part <= HT1621_PART_GN + 1; part++)
+            ht1621_commands(part, commands, n, out, sizeof out);
 }
 static void all_decodes(void)
 {
@@ -111,7 +131,8 @@ int main(void)
     memcpy(read_past, read_stream, sizeof read_past);
     write_past[8] = read_past[8] = 12; /* the two samples of A5 */
     write_past[9] = read_past[9] = 14;
-    commanding = ht1621_commands(commands, sizeof commands, command_stream, sizeof command_stream);
+    commanding = ht1621_commands(HT1621_PART_HT, commands, sizeof commands, command_stream, sizeof command_stream);
+    gn_commanding = ht1621_commands(HT1621_PART_GN, gn_commands, sizeof gn_commands, gn_stream, sizeof gn_stream);
     for (size_t i = 0; i < sizeof calls / sizeof calls[0]; i++)
         printf("%s %lu\n", calls[i].name, (unsigned long)(depth(calls[i].function) - depth(nothing)));
     return 0;

@@ -15,7 +15,7 @@ int advance(int by) { return by + 1; }
 int main(void)
 {
     uint8_t memory[HT1621_ADDRESSES] = {0}, chip[HT1621_RECORD_BYTES];
-    ht1621_power_on(memory, sizeof memory, chip, sizeof chip);
+    ht1621_power_on(HT1621_PART_HT, memory, sizeof memory, chip, sizeof chip);
     printf("%d %d %d, ", step(2), advance(2), pins);
     printf("%u, ", (unsigned)ht1621_step(chip, sizeof chip, 14));
     printf("%u, ", (unsigned)ht1621_advance(chip, sizeof chip, 1));

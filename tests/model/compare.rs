@@ -20,7 +20,13 @@ mod lent {
             pub fn step(record: *mut u8, len: usize, sample: u8) -> u32;
             pub fn advance(record: *mut u8, len: usize, n: u16) -> u32;
             pub fn pins(record: *const u8, len: usize, out: *mut u8, out_len: usize) -> u32;
-            pub fn ht1621_power_on(memory: *const u8, len: usize, record: *mut u8, record_len: usize) -> u32;
+            pub fn ht1621_power_on(
+                part: usize,
+                memory: *const u8,
+                len: usize,
+                record: *mut u8,
+                record_len: usize,
+            ) -> u32;
             pub fn ht1621_write(
                 first: usize,
                 nibbles: *const u8,
@@ -29,7 +35,13 @@ mod lent {
                 out_len: usize,
             ) -> u32;
             pub fn ht1621_read(first: usize, count: usize, out: *mut u8, out_len: usize) -> u32;
-            pub fn ht1621_commands(codes: *const u8, len: usize, out: *mut u8, out_len: usize) -> u32;
+            pub fn ht1621_commands(
+                part: usize,
+                codes: *const u8,
+                len: usize,
+                out: *mut u8,
+                out_len: usize,
+            ) -> u32;
             pub fn ht1621_decode(noted: *const u8, len: usize, out: *mut u8, out_len: usize) -> u32;
         }
     }
@@ -192,11 +204,19 @@ mod lent {
     }
 
     /// The host's power-on, with a buffer of a length for the record.
-    pub fn power_on(memory: &[u8], record_len: usize) -> Outcome {
+    pub fn power_on(part: usize, memory: &[u8], record_len: usize) -> Outcome {
         let mut input = Lent::holding(memory);
         let mut output = Lent::for_output(record_len);
-        let result = unsafe { c::ht1621_power_on(input.start(), input.len(), output.start(), record_len) };
-        let call = || format!("ht1621_power_on memory={} record_len={}", hex(memory), record_len);
+        let result =
+            unsafe { c::ht1621_power_on(part, input.start(), input.len(), output.start(), record_len) };
+        let call = || {
+            format!(
+                "ht1621_power_on part={} memory={} record_len={}",
+                part,
+                hex(memory),
+                record_len
+            )
+        };
         judge_input(result, &input, &call);
         judge_output(result, written(result), &output, &call);
         (result, output.body().to_vec())
@@ -230,11 +250,11 @@ mod lent {
     }
 
     /// The host's commands, with a buffer of a length for the stream.
-    pub fn commands(codes: &[u8], out_len: usize) -> Outcome {
+    pub fn commands(part: usize, codes: &[u8], out_len: usize) -> Outcome {
         let mut input = Lent::holding(codes);
         let mut output = Lent::for_output(out_len);
-        let result = unsafe { c::ht1621_commands(input.start(), input.len(), output.start(), out_len) };
-        let call = || format!("ht1621_commands codes={} out_len={}", hex(codes), out_len);
+        let result = unsafe { c::ht1621_commands(part, input.start(), input.len(), output.start(), out_len) };
+        let call = || format!("ht1621_commands part={} codes={} out_len={}", part, hex(codes), out_len);
         judge_input(result, &input, &call);
         judge_output(result, written(result), &output, &call);
         (result, output.body().to_vec())
@@ -253,6 +273,10 @@ mod lent {
 }
 
 use lent::fill;
+
+// The parts, as the host is told them and as byte 58 of a record has them.
+const HT: usize = 0;
+const GN: usize = 1;
 
 // Prints a line that tells a wrong call and ends the run.
 fn wrong(line: &str) -> ! {
@@ -399,12 +423,12 @@ impl Tally {
         got
     }
 
-    // Commands asked of the host.
-    fn commands(&mut self, codes: &[u8], out_len: usize) -> Outcome {
-        let due = due::commands(codes, &fill(out_len));
-        let got = lent::commands(codes, out_len);
+    // Commands to a part asked of the host.
+    fn commands(&mut self, part: usize, codes: &[u8], out_len: usize) -> Outcome {
+        let due = due::commands(part, codes, &fill(out_len));
+        let got = lent::commands(part, codes, out_len);
         self.same(due, got.clone(), &|| {
-            format!("ht1621_commands codes={} out_len={}", hex(codes), out_len)
+            format!("ht1621_commands part={} codes={} out_len={}", part, hex(codes), out_len)
         });
         got
     }
@@ -419,11 +443,16 @@ impl Tally {
         got
     }
 
-    // One power-on.
-    fn power_on(&mut self, memory: &[u8], record_len: usize) -> Outcome {
-        let got = lent::power_on(memory, record_len);
-        self.same(due::power_on(memory, &fill(record_len)), got.clone(), &|| {
-            format!("ht1621_power_on memory={} record_len={}", hex(memory), record_len)
+    // One power-on of a part.
+    fn power_on(&mut self, part: usize, memory: &[u8], record_len: usize) -> Outcome {
+        let got = lent::power_on(part, memory, record_len);
+        self.same(due::power_on(part, memory, &fill(record_len)), got.clone(), &|| {
+            format!(
+                "ht1621_power_on part={} memory={} record_len={}",
+                part,
+                hex(memory),
+                record_len
+            )
         });
         got
     }
@@ -444,7 +473,26 @@ fn record_in(dice: &mut Dice, phase: u8) -> [u8; 64] {
     }
     set_settings(dice, &mut record);
     set_counters(dice, &mut record);
+    let part = dice.byte(2);
+    set_scan(dice, &mut record, part);
     record
+}
+
+// Makes a record one of a part, with a random scan, often on the edge of a step.
+fn set_scan(dice: &mut Dice, record: &mut [u8; 64], part: u8) {
+    let last = last_counter(part);
+    record[58] = part;
+    record[59] = if dice.once_in(2) {
+        dice.pick(&[0, 1, last - 1, last])
+    } else {
+        dice.byte(last as usize + 1)
+    };
+    record[60] = dice.byte(record[44] as usize);
+}
+
+// Where the scan's counter of a part ends.
+fn last_counter(part: u8) -> u8 {
+    [127, 95][part as usize]
 }
 
 // Gives a record random settings.
@@ -518,7 +566,7 @@ fn fed(tally: &mut Tally, record: &[u8], samples: &[u8]) -> Outcome {
 
 // The examples and cases of the rules, with their numbers and not the model's.
 fn cases_of_the_rules(tally: &mut Tally) {
-    let chip = tally.power_on(&[0; 32], 64).1;
+    let chip = tally.power_on(HT, &[0; 32], 64).1;
     answer_cases(tally, &chip);
     length_cases(tally);
     let four_commons = commanded(tally, &chip, &[0x2B]);
@@ -528,6 +576,8 @@ fn cases_of_the_rules(tally: &mut Tally) {
     clear_cases(tally, &chip);
     tick_cases(tally, &chip);
     past_cases(tally, &chip);
+    part_cases(tally);
+    scan_cases(tally);
 }
 
 // Cases (a) and (b).
@@ -560,14 +610,16 @@ fn length_cases(tally: &mut Tally) {
     tally.equal(past_end, write(31, &[1; 2]), &|| {
         "(d) ht1621_write first=31 nibbles=0101 out_len=300".to_string()
     });
-    let commands = |codes: &[u8]| lent::commands(codes, 300).0;
-    tally.equal(27, commands(&[1]), &|| {
-        "(e) ht1621_commands codes=01 out_len=300".to_string()
-    });
     let undefined = (1 << 31) + 24;
-    tally.equal(undefined, commands(&[0x2C]), &|| {
-        "(f) ht1621_commands codes=2c out_len=300".to_string()
-    });
+    for part in [HT, GN] {
+        let commands = |codes: &[u8]| lent::commands(part, codes, 300).0;
+        tally.equal(27, commands(&[1]), &|| {
+            format!("(e) ht1621_commands part={} codes=01 out_len=300", part)
+        });
+        tally.equal(undefined, commands(&[0x2C]), &|| {
+            format!("(f) ht1621_commands part={} codes=2c out_len=300", part)
+        });
+    }
     let decoded = lent::decode(&[1, 0, 1, 0], 1);
     tally.same((1, vec![5]), decoded, &|| {
         "(k) ht1621_decode noted=01000100 out_len=1".to_string()
@@ -662,24 +714,78 @@ fn past_cases(tally: &mut Tally, chip: &[u8]) {
     }
 }
 
+// What each part makes of 08 to 0F: the driver's answer, the chip's, and b afterwards, which was 200; and what power-on
+// and the driver say of parts that are none.
+fn part_cases(tally: &mut Tally) {
+    for (code, kept) in [
+        (0x08, [Some(200), Some(200)]),
+        (0x09, [Some(200), Some(200)]),
+        (0x0A, [None, Some(0)]),
+        (0x0B, [None, Some(0)]),
+        (0x0C, [Some(0), None]),
+        (0x0D, [Some(0), None]),
+        (0x0E, [Some(0), Some(0)]),
+        (0x0F, [Some(0), Some(0)]),
+    ] {
+        for part in [HT, GN] {
+            let of = || format!("code {:02x} in part {}", code, part);
+            let due = if kept[part].is_some() { 27 } else { (1 << 31) + 24 };
+            tally.equal(due, lent::commands(part, &[code], 27).0, &of);
+            let mut chip = lent::power_on(part, &[0; 32], 64).1;
+            chip[55] = 200;
+            let samples = [&[14, 12, 14, 4, 6, 4, 6], &sent_number(9, 2 * code as u16)[..]].concat();
+            let (answer, after) = fed(tally, &chip, &samples);
+            let due = if kept[part].is_some() { 6 } else { 7 };
+            tally.equal(due + 256 * code as u32, answer, &of);
+            tally.equal(kept[part].unwrap_or(200), after[55] as u32, &of);
+        }
+    }
+    for part in [2, 255, 256, 257, 1 << 32, (1 << 32) + 1, usize::MAX] {
+        let unknown = (1 << 31) + 43;
+        tally.equal(unknown, lent::commands(part, &[], 0).0, &|| format!("commands of part {}", part));
+        tally.equal(unknown, lent::power_on(part, &[], 0).0, &|| format!("power-on of part {}", part));
+    }
+}
+
+// The scan from power-on with a crystal: SYS EN, XTAL and bias 1/3 with 3 commons. After so many ticks counter and common
+// are these.
+fn scan_cases(tally: &mut Tally) {
+    let of_ht = [(127, 127, 0), (128, 0, 1), (255, 127, 1), (256, 0, 2), (383, 127, 2), (384, 0, 0), (96, 96, 0)];
+    let of_gn = [(95, 95, 0), (96, 0, 1), (191, 95, 1), (192, 0, 2), (287, 95, 2), (288, 0, 0), (128, 32, 1)];
+    for (part, cases) in [(HT, of_ht), (GN, of_gn)] {
+        let fresh = tally.power_on(part, &[0; 32], 64).1;
+        let chip = commanded(tally, &fresh, &[0x01, 0x14, 0x25]);
+        for (ticks, counter, common) in cases {
+            let after = lent::advance(&chip, ticks).1;
+            let got = (after[58] as u32) << 16 | (after[59] as u32) << 8 | after[60] as u32;
+            tally.equal((part as u32) << 16 | counter << 8 | common, got, &|| {
+                format!("bytes 58 to 60 after advance record={} n={}", hex(&chip), ticks)
+            });
+        }
+    }
+}
+
 // Whether IRQ is low after ticks.
 fn irq_after(record: &[u8], ticks: u16) -> u32 {
     lent::pins(&lent::advance(record, ticks).1, 32).0 & 1
 }
 
-// A record after commands that the host has put into samples.
+// A record after commands to its part that the host has put into samples.
 fn commanded(tally: &mut Tally, record: &[u8], codes: &[u8]) -> Vec<u8> {
-    let stream = tally.commands(codes, 9 + 18 * codes.len());
+    let stream = tally.commands(record[58] as usize, codes, 9 + 18 * codes.len());
     fed(tally, record, &stream.1).1
 }
 
-// All 512 nine-bit codes, bit by bit, from the chip at power-on and from chips
-// with many settings; then each once more as the second command of its frame.
+// All 512 nine-bit codes, bit by bit, from the chips of both parts at power-on and
+// from such with many settings; then each once more as the second command of its
+// frame.
 fn codes(tally: &mut Tally) {
-    let mut chips = vec![tally.power_on(&[0; 32], 64).1];
+    let mut chips = vec![tally.power_on(HT, &[0; 32], 64).1, tally.power_on(GN, &[0; 32], 64).1];
     for clock in 0..3 {
-        for irq_source in 0..3 {
+        for kind in 0..6 {
+            let (irq_source, part) = (kind % 3, kind / 3);
             let mut record = record_in(&mut tally.dice, 0);
+            set_scan(&mut tally.dice, &mut record, part);
             record[40] = 1;
             record[41] = clock;
             record[42] = 1;
@@ -845,22 +951,32 @@ fn huge_spans(tally: &mut Tally) {
     }
 }
 
-// Commands of every number from 0 to 40 and many more, and every code at every
-// place of a short and a full list.
+// For each part, commands of every number from 0 to 40 and many more, and every
+// code at every place of a short and a full list; then parts that are none.
 fn commands_asked(tally: &mut Tally) {
-    let defined: Vec<u8> = (0..=255).filter(|&code| model::defined(code)).collect();
-    for count in (0..=40).chain([64, 255, 256, 257, 288, 65_536, 65_537, 65_568].iter().copied()) {
-        let codes: Vec<u8> = (0..count).map(|_| tally.dice.pick(&defined)).collect();
-        tally.commands(&codes, 600);
-        tally.commands(&vec![0x2C; count], 600);
-    }
-    for &count in [1, 2, 5, 32].iter() {
-        for place in 0..count {
-            for code in 0..=255 {
-                let mut codes: Vec<u8> = (0..count).map(|_| tally.dice.pick(&defined)).collect();
-                codes[place] = code;
-                tally.commands(&codes, 9 + 18 * count);
+    for part in [HT, GN] {
+        let defined: Vec<u8> = (0..=255).filter(|&code| model::defined(part as u8, code)).collect();
+        for count in (0..=40).chain([64, 255, 256, 257, 288, 65_536, 65_537, 65_568].iter().copied()) {
+            let codes: Vec<u8> = (0..count).map(|_| tally.dice.pick(&defined)).collect();
+            tally.commands(part, &codes, 600);
+            tally.commands(1 - part, &codes, 600);
+            tally.commands(part, &vec![0x2C; count], 600);
+        }
+        for &count in [1, 2, 5, 32].iter() {
+            for place in 0..count {
+                for code in 0..=255 {
+                    let mut codes: Vec<u8> = (0..count).map(|_| tally.dice.pick(&defined)).collect();
+                    codes[place] = code;
+                    tally.commands(part, &codes, 9 + 18 * count);
+                    tally.commands(1 - part, &codes, 9 + 18 * count);
+                }
             }
+        }
+    }
+    for part in (2..300).chain(huge_numbers()) {
+        for codes in [&[1][..], &[0x0A], &[0x0C], &[], &[0x2C], &[1; 33]] {
+            tally.commands(part, codes, 27);
+            tally.commands(part, codes, 0);
         }
     }
 }
@@ -904,9 +1020,12 @@ fn refusal_orders(tally: &mut Tally) {
                 tally.read(first, count, out_len);
             }
         }
+        let lists = [(0x2B, 0x2C), (0xE3, 0xFF), (0x0A, 0x0C), (0x0C, 0x0A)].map(|(good, bad)| faulty(count, good, bad));
         for &out_len in &near(9 + 18 * count) {
-            for list in faulty(count, 0x2B, 0x2C).iter().chain(&faulty(count, 0xE3, 0xFF)) {
-                tally.commands(list, out_len);
+            for list in lists.iter().flatten() {
+                for part in [HT, GN, 2, usize::MAX] {
+                    tally.commands(part, list, out_len);
+                }
             }
         }
     }
@@ -922,7 +1041,9 @@ fn refusal_orders(tally: &mut Tally) {
         }
         for &out_len in &near(64) {
             for memory in faulty(len, 15, 16).iter().chain(&faulty(len, 0, 255)) {
-                tally.power_on(memory, out_len);
+                for part in [HT, GN, 2, usize::MAX] {
+                    tally.power_on(part, memory, out_len);
+                }
             }
         }
     }
@@ -933,7 +1054,7 @@ fn refusal_orders(tally: &mut Tally) {
 fn malformed_first(tally: &mut Tally) {
     for _ in 0..200 {
         let mut record = random_record(&mut tally.dice).to_vec();
-        let place = tally.dice.pick(&[0, 31, 32, 33, 34, 37, 40, 57, 58, 63]);
+        let place = tally.dice.pick(&[0, 31, 32, 33, 34, 37, 40, 57, 58, 59, 60, 61, 63]);
         for malformed in 0..2 {
             record[place] |= 0x80 * malformed;
             for &sample in [0, 15, 16, 255].iter() {
@@ -1005,6 +1126,68 @@ fn record_pairs(tally: &mut Tally) {
     }
 }
 
+// Each part, and such as are none, with each number of commons, each counter and
+// each common, and some beyond them: one tick from the crystal, and all calls.
+fn record_scans(tally: &mut Tally) {
+    for state in 0..3 * 5 * 7 {
+        let (part, commons) = ([0, 1, 2][state % 3], (1 + state / 3 % 5) as u8);
+        let common = [0, 1, 2, 3, 4, 5, 255][state / 15];
+        for counter in 0..=255 {
+            let mut record = random_record(&mut tally.dice);
+            (record[40], record[41]) = (1, 0);
+            record[44] = commons;
+            record[58..61].copy_from_slice(&[part, counter, common]);
+            tally.advance(&record, 1);
+            three_calls(tally, &record);
+            (record[41], record[52]) = (tally.dice.pick(&[1, 2]), tally.dice.pick(&[6, 7]));
+            tally.advance(&record, 1);
+            record[40] = 0;
+            tally.advance(&record, 1);
+        }
+    }
+}
+
+// The same bytes as either part, and as none: with the counter at each value.
+fn crossed_records(tally: &mut Tally) {
+    for round in 0..32 {
+        let mut record = record_in(&mut tally.dice, round % 8);
+        for counter in 0..=255 {
+            record[59] = counter;
+            for part in [0, 1, 2, 3, 255] {
+                record[58] = part;
+                three_calls(tally, &record);
+            }
+        }
+        for part in 0..=255 {
+            record[58] = part;
+            record[59] = tally.dice.pick(&[0, 95, 96, 127, 128]);
+            three_calls(tally, &record);
+        }
+    }
+}
+
+// Every command that sets the commons, 2C and 2D beside them, and others, from each
+// part, number of commons and common, with the counter at 0, at its end and within.
+fn scans_begun(tally: &mut Tally) {
+    for (part, commons) in [(0, 2), (0, 3), (0, 4), (1, 2), (1, 3), (1, 4)] {
+        for common in 0..commons {
+            for counter in [0, 1, 50, last_counter(part)] {
+                let mut record = record_in(&mut tally.dice, 0);
+                record[44] = commons;
+                record[58..61].copy_from_slice(&[part, counter, common]);
+                let frame = fed(tally, &record, &[14, 12, 14, 4, 6, 4, 6]).1;
+                for code in (0x20..=0x2F).chain([0x00, 0x01, 0x02, 0x03, 0x0A, 0x0C, 0x0E, 0x14, 0x18, 0x1C]) {
+                    let (_, after) = fed(tally, &frame, &sent_number(9, 2 * code));
+                    let due = if (0x20..=0x2B).contains(&code) { [0, 0] } else { [counter, common] };
+                    tally.same((0, due.to_vec()), (0, after[59..61].to_vec()), &|| {
+                        format!("bytes 59 and 60 after {:02x} of record={}", code, hex(&frame))
+                    });
+                }
+            }
+        }
+    }
+}
+
 // Records of every length from 0 to 130.
 fn record_lengths(tally: &mut Tally) {
     for round in 0..16 {
@@ -1029,7 +1212,7 @@ fn output_lengths(tally: &mut Tally) {
         }
         let codes = vec![0x88; count];
         for out_len in 0..=9 + 18 * count + 19 {
-            tally.commands(&codes, out_len);
+            tally.commands(count % 2, &codes, out_len);
         }
         let noted = tally.dice.bytes(4 * count, 2);
         for out_len in 0..=count + 5 {
@@ -1040,7 +1223,8 @@ fn output_lengths(tally: &mut Tally) {
         let record = record_in(&mut tally.dice, round % 8);
         for out_len in 0..=130 {
             tally.pins(&record, out_len);
-            tally.power_on(&record[..32], out_len);
+            tally.power_on(HT, &record[..32], out_len);
+            tally.power_on(GN, &record[..32], out_len);
         }
     }
 }
@@ -1073,37 +1257,48 @@ fn decodings(tally: &mut Tally) {
     }
 }
 
-// Memories of every length from 0 to 130, and every value at every place.
+// For each part, memories of every length from 0 to 130, and every value at every
+// place; then parts that are none.
 fn power_ons(tally: &mut Tally) {
-    for len in (0..=130).chain([256, 288, 65_536, 65_568].iter().copied()) {
-        let memory = tally.dice.bytes(len, 16);
-        tally.power_on(&memory, 64);
-        tally.power_on(&vec![16; len], 64);
+    for part in [HT, GN] {
+        for len in (0..=130).chain([256, 288, 65_536, 65_568].iter().copied()) {
+            let memory = tally.dice.bytes(len, 16);
+            tally.power_on(part, &memory, 64);
+            tally.power_on(part, &vec![16; len], 64);
+        }
+        for place in 0..32 {
+            for value in 0..=255 {
+                let mut memory = tally.dice.bytes(32, 16);
+                memory[place] = value;
+                tally.power_on(part, &memory, 64);
+                memory[31] = 99;
+                tally.power_on(part, &memory, 64);
+            }
+        }
     }
-    for place in 0..32 {
-        for value in 0..=255 {
-            let mut memory = tally.dice.bytes(32, 16);
-            memory[place] = value;
-            tally.power_on(&memory, 64);
-            memory[31] = 99;
-            tally.power_on(&memory, 64);
+    for part in (2..300).chain(huge_numbers()) {
+        for memory in [&[7; 32][..], &[], &[16; 32], &[16; 31]] {
+            tally.power_on(part, memory, 64);
+            tally.power_on(part, memory, 63);
         }
     }
 }
 
-// Advances by edge numbers of ticks at every rate and clock, and by single ticks.
+// Advances by edge numbers of ticks at every rate and clock of each part, and by
+// single ticks.
 fn advances(tally: &mut Tally) {
     let edges = [
-        0, 1, 2, 7, 8, 9, 15, 16, 17, 63, 64, 127, 128, 129, 255, 256, 1023, 1024, 1025, 4096, 8191, 8192,
-        32_767, 32_768, 65_534, 65_535,
+        0, 1, 2, 7, 8, 9, 15, 16, 17, 63, 64, 95, 96, 97, 127, 128, 129, 192, 255, 256, 288, 383, 384, 385, 511,
+        512, 767, 768, 769, 1023, 1024, 1025, 3071, 3072, 4096, 8191, 8192, 32_767, 32_768, 65_534, 65_535,
     ];
-    for kind in 0..96 {
-        for _ in 0..6 {
+    for kind in 0..192 {
+        for _ in 0..4 {
             let mut record = random_record(&mut tally.dice);
             record[40] = kind & 1;
             record[41] = kind / 2 % 3;
             record[48] = kind / 6 % 8;
-            record[49] = kind / 48;
+            record[49] = kind / 48 % 2;
+            set_scan(&mut tally.dice, &mut record, kind / 96);
             for &ticks in edges.iter() {
                 let advanced = tally.advance(&record, ticks).1;
                 tally.pins(&advanced, 32);
@@ -1227,9 +1422,10 @@ impl Plan {
         self.send_number(dice, 3, 4);
         for _ in 0..=dice.below(8) {
             let mut code = dice.byte(256);
-            if !model::defined(code) || dice.once_in(2) {
+            if !model::defined(0, code) || dice.once_in(2) {
                 code = dice.pick(&[
-                    0, 1, 1, 2, 3, 4, 5, 6, 7, 8, 9, 12, 14, 0x15, 0x19, 0x1D, 0x2A, 0x88, 0xA6, 0xB7, 0xFF,
+                    0, 1, 1, 2, 3, 4, 5, 6, 7, 8, 9, 10, 11, 12, 13, 14, 0x15, 0x19, 0x1D, 0x20, 0x25, 0x2A, 0x88, 0xA6,
+                    0xB7, 0xFF,
                 ]);
             }
             let ninth = dice.byte(2) as u16;
@@ -1269,8 +1465,8 @@ fn some_ticks(dice: &mut Dice) -> u16 {
     }
 }
 
-// Walks of so many samples: the model goes on living from sample to sample while
-// the library has only the record.
+// Walks of so many samples, of chips of either part: the model goes on living from
+// sample to sample while the library has only the record.
 fn walks(tally: &mut Tally, samples: u64) {
     let mut record = random_record(&mut tally.dice).to_vec();
     let mut chip = Model::from_record(&record).expect("a valid record");
@@ -1365,6 +1561,17 @@ impl Journey {
     fn advance(&mut self, ticks: u16) {
         self.calls.push(Call::Advance(ticks));
         self.now = lent::advance(&self.now, ticks).1;
+    }
+
+    // The journey's ticks alone, from where it started.
+    fn ticks_alone(&self) -> Journey {
+        let mut twin = Journey::from(&self.from);
+        for call in &self.calls {
+            if let Call::Advance(ticks) = *call {
+                twin.advance(ticks);
+            }
+        }
+        twin
     }
 
     // The journey as words: where it started, and its samples and +ticks.
@@ -1477,6 +1684,10 @@ impl Request {
         let mut chip = Journey::from(before);
         self.send(tally, &mut chip, samples);
         self.check(tally, before, samples, &chip);
+        let (twin, now) = (chip.ticks_alone(), &chip.now[40..]);
+        tally.same((0, twin.now[40..].to_vec()), (0, now.to_vec()), &|| {
+            format!("settings and counters in a write from {}", chip.told())
+        });
         let mut closed = chip.clone();
         closed.step(15);
         self.check(tally, before, samples, &closed);
@@ -1588,7 +1799,7 @@ fn main() {
     };
     println!("seed {}, samples {}", asked.seed, asked.samples);
     let walk = |tally: &mut Tally| walks(tally, asked.samples);
-    let checks: [(&str, &dyn Fn(&mut Tally)); 16] = [
+    let checks: [(&str, &dyn Fn(&mut Tally)); 19] = [
         ("cases of the rules", &cases_of_the_rules),
         ("codes", &codes),
         ("every sample", &every_sample),
@@ -1598,6 +1809,9 @@ fn main() {
         ("refusal orders", &refusal_orders),
         ("record bytes", &record_bytes),
         ("record pairs", &record_pairs),
+        ("record scans", &record_scans),
+        ("crossed records", &crossed_records),
+        ("scans begun", &scans_begun),
         ("record lengths", &record_lengths),
         ("output lengths", &output_lengths),
         ("decodings", &decodings),

@@ -57,9 +57,9 @@ fn host(result: Result<Vec<u8>, model::Refusal>, before: &[u8]) -> Outcome {
     }
 }
 
-/// Power-on.
-pub fn power_on(memory: &[u8], before: &[u8]) -> Outcome {
-    let record = model::power_on(memory).map(|chip| chip.record().to_vec());
+/// Power-on of a part.
+pub fn power_on(part: usize, memory: &[u8], before: &[u8]) -> Outcome {
+    let record = model::power_on(part as u64, memory).map(|chip| chip.record().to_vec());
     let fitted = record.and_then(|bytes| if before.len() < 64 { Err((25, 0)) } else { Ok(bytes) });
     host(fitted, before)
 }
@@ -74,9 +74,9 @@ pub fn read(first: usize, count: usize, before: &[u8]) -> Outcome {
     host(model::read(first as u64, count as u64, before.len()), before)
 }
 
-/// The stream of commands.
-pub fn commands(codes: &[u8], before: &[u8]) -> Outcome {
-    host(model::commands(codes, before.len()), before)
+/// The stream of commands to a part.
+pub fn commands(part: usize, codes: &[u8], before: &[u8]) -> Outcome {
+    host(model::commands(part as u64, codes, before.len()), before)
 }
 
 /// The nibbles of noted bytes.

@@ -18,11 +18,11 @@ type Bytes<'a> = &'a [(usize, u8)];
 // Everything on, every selection other than at power-on, every counter moving.
 const ON: Bytes = &[
     (40, 1), (42, 1), (43, 3), (44, 4), (45, 1), (46, 2), (47, 1), (48, 3), (49, 1), (50, 2), (51, 1),
-    (52, 5), (53, 9), (54, 77), (55, 201), (56, 3), (57, 1),
+    (52, 5), (53, 9), (54, 77), (55, 201), (56, 3), (57, 1), (59, 90), (60, 2),
 ];
 
 // Everything off, with the crystal for a clock, and counters that have moved.
-const OFF: Bytes = &[(41, 0), (48, 4), (52, 2), (53, 3), (54, 5), (55, 6), (56, 1)];
+const OFF: Bytes = &[(41, 0), (48, 4), (52, 2), (53, 3), (54, 5), (55, 6), (56, 1), (59, 7), (60, 1)];
 
 // A command frame, and read and write frames at address 31, with no unfinished bits.
 const COMMAND: Bytes = &[(32, 14), (33, 6)];
@@ -31,6 +31,15 @@ const WRITE: Bytes = &[(32, 14), (33, 5), (37, 31)];
 
 // A running chip with the crystal and the time base on.
 const TIMED: Bytes = &[(40, 1), (41, 0), (49, 1)];
+
+// A running chip with the crystal, the time base off.
+const RUNNING: Bytes = &[(40, 1), (41, 0)];
+
+// A GN in place of an HT.
+const GN: Bytes = &[(58, 1)];
+
+// The parts as records have them, the bytes that make each, and where their scans' counters end.
+const PARTS: [(Bytes, u8); 2] = [(&[], 127), (GN, 95)];
 
 // The record at power-on with a memory in which every nibble and every neighbour differs, changed in these bytes.
 fn record(changes: &[Bytes]) -> Vec<u8> {
@@ -73,10 +82,20 @@ impl Script {
         self.lines.push(format!("s {ticks:04x} t"));
     }
 
-    // Pins, power-on, commands and decoding, by their letters.
+    // Pins and decoding, by their letters.
     fn lend(&mut self, letter: char, list: &[u8], room: usize) {
         self.list(list);
         self.lines.push(format!("{letter} {room:03x}"));
+    }
+
+    fn power_on(&mut self, part: u64, memory: &[u8], room: usize) {
+        self.list(memory);
+        self.lines.push(format!("o {room:03x} {part:016x}"));
+    }
+
+    fn commands(&mut self, part: u64, codes: &[u8], room: usize) {
+        self.list(codes);
+        self.lines.push(format!("c {room:03x} {part:016x}"));
     }
 
     fn write(&mut self, first: u64, nibbles: &[u8], room: usize) {
@@ -128,6 +147,9 @@ fn script(random: &mut Random) -> String {
     let mut script = Script { lines: Vec::new(), list: vec![255] };
     feed_chip::codes(&mut script);
     feed_chip::ticks(&mut script);
+    feed_chip::scan_steps(&mut script);
+    feed_chip::scan_lengths(&mut script);
+    feed_chip::scan_begun(&mut script);
     feed_chip::rates_and_flag(&mut script);
     feed_chip::tone_and_irq(&mut script);
     feed_chip::data_and_cells(&mut script);
@@ -136,12 +158,15 @@ fn script(random: &mut Random) -> String {
     feed_chip::past_the_memory(&mut script);
     feed_chip::wild(random, &mut script);
     feed_calls::limits(&mut script);
+    feed_calls::parts_of_records(&mut script);
     feed_calls::addresses(&mut script);
     feed_calls::couplings(&mut script);
     feed_calls::streams(&mut script);
     feed_calls::refused_streams(&mut script);
     feed_calls::sent_commands(&mut script);
-    feed_calls::noted_and_power_on(&mut script);
+    feed_calls::refused_commands(&mut script);
+    feed_calls::noted(&mut script);
+    feed_calls::power_on(&mut script);
     script.lines.join("\n") + "\n"
 }
 

@@ -1,5 +1,5 @@
 // The part of the script that shows what calls refuse: damaged records, and requests at the limits of what is accepted.
-use crate::{changed, record, Bytes, Script, COMMAND, ON, READ, WRITE};
+use crate::{changed, record, Bytes, Script, COMMAND, GN, ON, PARTS, READ, WRITE};
 use std::collections::BTreeSet;
 
 // Calls that a record answers in one way if it is valid and in another if not: a sample that is refused, one that opens a
@@ -9,7 +9,7 @@ const CALLS: &str = "gct";
 // Records at and beyond the limit of each byte.
 pub fn limits(script: &mut Script) {
     script.words("each byte at its limits and beyond");
-    let write = record(&[ON, WRITE]);
+    let write = record(&[ON, WRITE, &[(60, 0)]]);
     for place in 0..32 {
         script.lend('p', &changed(&write, &[(place, 16)]), 32);
     }
@@ -30,10 +30,42 @@ pub fn limits(script: &mut Script) {
             script.capture(&changed(&write, &[(place, byte)]), CALLS);
         }
     }
-    for place in 58..64 {
-        for byte in [1, 255] {
-            script.capture(&changed(&write, &[(place, byte)]), CALLS);
+}
+
+// Records of each part: the part itself, the scan's counter and common at their limits and beyond, and what follows them.
+// The same bytes stand for both parts where they can, so that some are valid in one and not in the other.
+pub fn parts_of_records(script: &mut Script) {
+    script.words("parts");
+    for counter in [0, 95, 96] {
+        for part in [0, 1, 2, 3, 255] {
+            script.capture(&record(&[ON, READ, &[(58, part), (59, counter)]]), CALLS);
         }
+    }
+    for (part, (of_part, _)) in PARTS.into_iter().enumerate() {
+        script.words(&format!("part {part}: the scan's counter"));
+        let held = record(&[ON, of_part]);
+        for counter in [0, 1, 94, 95, 96, 97, 126, 127, 128, 129, 223, 255] {
+            script.capture(&changed(&held, &[(59, counter)]), CALLS);
+        }
+        script.lend('p', &changed(&held, &[(59, 96)]), 32);
+        script.advance(&changed(&held, &[(59, 128)]), 9);
+        script.words(&format!("part {part}: the common"));
+        for commons in 2..=4 {
+            for common in [commons - 1, commons, commons + 1, 128 + commons - 1, 255] {
+                script.capture(&changed(&held, &[(44, commons), (60, common)]), CALLS);
+            }
+        }
+        script.words(&format!("part {part}: the last bytes"));
+        for place in 61..64 {
+            for byte in [1, 255] {
+                script.capture(&changed(&held, &[(place, byte)]), CALLS);
+            }
+        }
+    }
+    script.words("a GN in each phase");
+    for phase in 0..8 {
+        let lines = if phase == 0 { 15 } else { 14 };
+        script.capture(&record(&[ON, GN, &[(32, lines), (33, phase)]]), CALLS);
     }
 }
 
@@ -142,33 +174,69 @@ pub fn refused_streams(script: &mut Script) {
     }
 }
 
-// Commands as the driver sends them: each code by itself, then their number, and their refusals.
+// Commands as the driver sends them to each part: each code by itself, then their number.
 pub fn sent_commands(script: &mut Script) {
-    script.words("each code as a stream");
+    script.words("each code as a stream, to each part");
     for code in 0..=255 {
-        script.lend('c', &[code], 27);
+        script.commands(0, &[code], 27);
+        script.commands(1, &[code], 27);
     }
     script.words("several commands");
-    let many: Vec<u8> = (0..40).map(|i| [0x01, 0x29, 0x5f, 0xab, 0xe3][i % 5]).collect();
-    for count in [1, 2, 3, 31, 32] {
-        let needed = 9 + 18 * count;
-        script.lend('c', &many[..count], needed);
-        script.lend('c', &many[..count], needed - 1);
+    let many = many_commands();
+    for part in [0, 1] {
+        for count in [1, 2, 3, 31, 32] {
+            let needed = 9 + 18 * count;
+            script.commands(part, &many[..count], needed);
+            script.commands(part, &many[..count], needed - 1);
+        }
     }
-    script.lend('c', &many[..2], 48);
+    script.commands(0, &many[..2], 48);
+}
+
+// Commands that both parts have, more of them than are accepted.
+fn many_commands() -> Vec<u8> {
+    (0..40).map(|i| [0x01, 0x29, 0x5f, 0xab, 0xe3][i % 5]).collect()
+}
+
+// Parts that are none: beside those that are, and such as end in their bits.
+const UNKNOWN: [u64; 10] = [2, 3, 4, 255, 256, 257, 1 << 32, (1 << 32) + 1, 1 << 63, u64::MAX];
+
+// Commands that are refused, of each part and of none, in the order of the refusals, with their places.
+pub fn refused_commands(script: &mut Script) {
     script.words("refused commands");
+    let many = many_commands();
     for list in [
         vec![], many[..33].to_vec(), vec![0x2c; 33], vec![0x2c], vec![0x01, 0x0a], vec![0x01, 0x29, 0xff, 0xc0],
         [many[..31].to_vec(), vec![0xe1]].concat(), [many[..32].to_vec(), vec![0x2c]].concat(), many[..40].to_vec(), vec![0x01; 160],
     ] {
         for room in [0, 26, 100] {
-            script.lend('c', &list, room);
+            script.commands(0, &list, room);
         }
+        script.commands(1, &list, 0);
+        script.commands(2, &list, 0);
+    }
+    script.words("codes that one part has, beside others");
+    for list in [
+        vec![0x0a, 0x0c], vec![0x0c, 0x0a], vec![0x01, 0x0b, 0x0f], vec![0x01, 0x0e, 0x0d], vec![0x09, 0x0a, 0x0b, 0x2c],
+        [many[..31].to_vec(), vec![0x0d]].concat(), [many[..31].to_vec(), vec![0x0b]].concat(), vec![0x0a; 33], vec![0x0c; 33],
+    ] {
+        for part in [0, 1] {
+            script.commands(part, &list, 585);
+            script.commands(part, &list, 0);
+        }
+    }
+    script.words("43 of commands, before 21, 31, 24 and 25");
+    for list in [vec![0x01], vec![], vec![0x2c], vec![0x0a], vec![0x0c], vec![0x01; 33]] {
+        for part in UNKNOWN {
+            script.commands(part, &list, 27);
+        }
+        script.commands(2, &list, 26);
+        script.commands(u64::MAX, &list, 0);
     }
 }
 
-// Decoding: each nibble, numbers of noted bytes, and refusals; and power-on.
-pub fn noted_and_power_on(script: &mut Script) {
+// Decoding: each nibble, numbers of noted bytes, and refusals.
+pub fn noted(script: &mut Script) {
     script.words("decoding");
     let noted: Vec<u8> = (0..16u8).flat_map(|nibble| (0..4).map(move |bit| nibble >> bit & 1)).collect();
     let long = [&noted[..], &noted[..], &noted[..8]].concat();
@@ -188,17 +256,33 @@ pub fn noted_and_power_on(script: &mut Script) {
             script.lend('d', &list, room);
         }
     }
+}
+
+// Power-on: of each part, and refused.
+pub fn power_on(script: &mut Script) {
     script.words("power-on");
     let memory: Vec<u8> = (0..32).map(|i| (i * 5 + 1) % 16).collect();
-    for room in [0, 63, 64, 65] {
-        script.lend('o', &memory, room);
-    }
     let mut lists = vec![vec![], vec![1; 31], vec![1; 33], vec![1; 64], vec![16; 31], vec![16; 33], vec![15; 32]];
     lists.extend([0, 1, 30, 31].map(|place| changed(&memory, &[(place, 16)])));
     lists.push(changed(&memory, &[(7, 255), (9, 16)]));
-    for list in lists {
-        for room in [0, 64] {
-            script.lend('o', &list, room);
+    for part in [0, 1] {
+        for room in [0, 63, 64, 65] {
+            script.power_on(part, &memory, room);
         }
+    }
+    for list in &lists {
+        for room in [0, 64] {
+            script.power_on(0, list, room);
+        }
+        script.power_on(1, list, 64);
+        script.power_on(2, list, 64);
+    }
+    script.words("43 of power-on, before 29, 23 and 25");
+    for list in [&memory, &lists[0], &lists[4], &lists[7]] {
+        for part in UNKNOWN {
+            script.power_on(part, list, 64);
+        }
+        script.power_on(2, list, 0);
+        script.power_on(u64::MAX, list, 63);
     }
 }

@@ -1,17 +1,19 @@
 // The part of the script that shows what the chip does: commands, ticks, pins, and frames.
 use crate::random::{frame, Random};
-use crate::{closed, digits, open, record, sent, Bytes, Script, COMMAND, OFF, ON, READ, TIMED, WRITE};
+use crate::{closed, digits, open, record, sent, Bytes, Script, COMMAND, GN, OFF, ON, PARTS, READ, RUNNING, TIMED, WRITE};
 use std::collections::BTreeSet;
 
-// Every code in a command frame of a chip with everything on, and of one with everything off; the ninth bit, which is
-// ignored, is 0 for half of the codes on each. Then what depends on a selection: SYS DIS on the clock, TIMER DIS and
+// Every code in a command frame of a chip with everything on, and of one with everything off, of each part; the ninth bit,
+// which is ignored, is 0 for half of the codes on each. Then what depends on a selection: SYS DIS on the clock, TIMER DIS and
 // WDT DIS on the source; and IRQ DIS, IRQ EN and CLR WDT, which depend on nothing.
 pub fn codes(script: &mut Script) {
-    for (name, state, last) in [("on", ON, 0), ("off", OFF, 1)] {
-        script.words(&format!("every code, everything {name}"));
-        for code in 0..=255u8 {
-            let bits = format!("{code:08b}{}", (code + last) % 2);
-            script.capture(&record(&[state, COMMAND]), &sent(&bits));
+    for (part, (of_part, _)) in PARTS.into_iter().enumerate() {
+        for (name, state, last) in [("on", ON, 0), ("off", OFF, 1)] {
+            script.words(&format!("every code, part {part}, everything {name}"));
+            for code in 0..=255u8 {
+                let bits = format!("{code:08b}{}", code % 2 ^ last);
+                script.capture(&record(&[state, COMMAND, of_part]), &sent(&bits));
+            }
         }
     }
     for clock in 0..3 {
@@ -22,6 +24,10 @@ pub fn codes(script: &mut Script) {
                 script.capture(&state, &sent(&format!("{code:08b}0")));
             }
         }
+    }
+    script.words("SYS DIS of a GN, with each clock");
+    for clock in 0..3 {
+        script.capture(&record(&[ON, GN, &[(41, clock)], COMMAND]), &sent("000000000"));
     }
     script.words("IRQ DIS, IRQ EN and CLR WDT for each source, output and flag, with all else on, and off");
     for state in 0..24u8 {
@@ -35,21 +41,88 @@ pub fn codes(script: &mut Script) {
     script.words("commands that follow each other in one frame, and a frame that stops within one");
     script.capture(&record(&[]), &closed("100000000010000000111000001101"));
     script.capture(&record(&[ON]), &closed("1001110001101110000011"));
+    script.capture(&record(&[ON, GN]), &closed("100000010100000011000000010111000001001"));
 }
 
 // Ticks of each clock, running or not, with the time base on or off, at the end of every counter; and advancing by numbers
 // of all sizes.
 pub fn ticks(script: &mut Script) {
     let full: Bytes = &[(52, 6), (53, 15), (54, 126), (55, 255), (56, 3)];
-    for state in 0..12u8 {
-        let (clock, system, time_base) = (state / 4, state / 2 % 2, state % 2);
-        script.words(&format!("ticks: clock {clock}, system {system}, time base {time_base}"));
-        let state = record(&[full, &[(40, system), (41, clock), (49, time_base)]]);
-        for calls in ["t", "tt", "ttttttttttt"] {
-            script.capture(&state, calls);
+    for (part, (of_part, last)) in PARTS.into_iter().enumerate() {
+        for state in 0..12u8 {
+            let (clock, system, time_base) = (state / 4, state / 2 % 2, state % 2);
+            script.words(&format!("ticks: part {part}, clock {clock}, system {system}, time base {time_base}"));
+            let switches: Bytes = &[(40, system), (41, clock), (49, time_base)];
+            let state = record(&[full, switches, of_part, &[(59, last), (60, 1)]]);
+            for calls in ["t", "tt", "ttttttttttt"] {
+                script.capture(&state, calls);
+            }
+            for ticks in [0, 1, 8, 1000, 65_535] {
+                script.advance(&state, ticks);
+            }
         }
-        for ticks in [0, 1, 8, 1000, 65_535] {
-            script.advance(&state, ticks);
+    }
+}
+
+// One step of the scan: from each common to the next, with each number of commons; from counters that are an end in neither
+// part or in the other; and with the LCD on and off, by each clock, with p before and at its end.
+pub fn scan_steps(script: &mut Script) {
+    for (part, (of_part, last)) in PARTS.into_iter().enumerate() {
+        script.words(&format!("the scan of part {part}: from common to common"));
+        for (commons, common) in [(2, 0), (2, 1), (3, 0), (3, 1), (3, 2), (4, 0), (4, 1), (4, 2), (4, 3)] {
+            script.capture(&record(&[RUNNING, of_part, &[(44, commons), (59, last), (60, common)]]), "t");
+        }
+        script.words(&format!("the scan of part {part}: the counter"));
+        for counter in [0, 1, 31, 63, 93, 94, 95, 96, 125, 126].into_iter().filter(|&counter| counter < last) {
+            let state = record(&[RUNNING, of_part, &[(44, 4), (59, counter), (60, 2)]]);
+            script.capture(&state, "t");
+            script.capture(&state, "tt");
+        }
+        script.words(&format!("the scan of part {part}: what it steps with"));
+        for state in 0..24u8 {
+            let (clock, system, lcd, p) = (state % 3, state / 3 % 2, state / 6 % 2, 6 + state / 12);
+            let switches: Bytes = &[(40, system), (41, clock), (42, lcd), (49, (clock + lcd + p) % 2), (52, p)];
+            script.capture(&record(&[switches, of_part, &[(44, 3), (59, last), (60, 1)]]), "t");
+        }
+        script.capture(&record(&[of_part, &[(40, 1), (44, 3), (59, last), (60, 1)]]), &"t".repeat(18));
+    }
+}
+
+// The scan over many ticks, from its beginning and from elsewhere.
+pub fn scan_lengths(script: &mut Script) {
+    for (part, (of_part, last)) in PARTS.into_iter().enumerate() {
+        for commons in 2..=4 {
+            script.words(&format!("the scan of part {part} with {commons} commons"));
+            for (counter, common) in [(0, 0), (last - 5, commons - 1)] {
+                let state = record(&[RUNNING, of_part, &[(44, commons), (59, counter), (60, common)]]);
+                for ticks in [2, 5, 6, 7, 95, 96, 97, 127, 128, 129, 192, 255, 256, 288, 383, 384, 511, 512, 10_000, 65_535] {
+                    script.advance(&state, ticks);
+                }
+            }
+            for (clock, ticks) in [(1, 768), (1, 1024), (2, 65_535)] {
+                script.advance(&record(&[of_part, &[(40, 1), (41, clock), (44, commons)]]), ticks);
+            }
+        }
+    }
+}
+
+// The commands that set the commons, from each number of commons, while the scan runs; and with the counter or the common
+// at 0 already.
+pub fn scan_begun(script: &mut Script) {
+    for (part, (of_part, last)) in PARTS.into_iter().enumerate() {
+        for commons in 2..=4 {
+            script.words(&format!("the scan of part {part} begun anew, from {commons} commons"));
+            let state = record(&[RUNNING, of_part, COMMAND, &[(44, commons), (59, last), (60, commons - 1)]]);
+            for code in 0x20..=0x2cu8 {
+                script.capture(&state, &sent(&format!("{code:08b}0")));
+            }
+            script.capture(&state, &(sent("0010010") + "t" + &sent("00") + "tt"));
+        }
+        for (counter, common) in [(0, 2), (last, 0)] {
+            let state = record(&[ON, of_part, COMMAND, &[(44, 3), (59, counter), (60, common)]]);
+            for code in [0x20, 0x25, 0x2b, 0x2f, 0x08] {
+                script.capture(&state, &sent(&format!("{code:08b}1")));
+            }
         }
     }
 }
@@ -133,6 +206,12 @@ pub fn data_and_cells(script: &mut Script) {
         let (commons, lcd) = (2 + state % 3, state / 3 % 2);
         let (system, clock) = [(1, 0), (0, 0), (0, 2), (0, 1)][state as usize / 6];
         script.lend('p', &record(&[&[(40, system), (41, clock), (42, lcd), (44, commons)]]), 32);
+    }
+    script.words("pins of each part, wherever its scan stands");
+    for (counter, common) in [(0, 0), (90, 1), (63, 2), (3, 3)] {
+        for (of_part, _) in PARTS {
+            script.lend('p', &record(&[ON, of_part, &[(59, counter), (60, common)]]), 32);
+        }
     }
     script.words("rooms for the cells");
     let shown = record(&[ON]);
@@ -265,6 +344,9 @@ fn any_record(random: &mut Random) -> Vec<u8> {
     bytes[43] += 2;
     bytes[44] += 2;
     bytes[46] = 2 + 2 * bytes[46];
+    bytes[58] = random.below(2) as u8;
+    bytes[59] = random.below([128, 96][bytes[58] as usize]) as u8;
+    bytes[60] = random.below(bytes[44] as u64) as u8;
     bytes
 }
 

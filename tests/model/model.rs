@@ -1,5 +1,6 @@
-// A model of the HT1621 that remembers a frame's clock events and reads them
-// all again at each sample. It shares nothing with any other model of the chip.
+// A model of the HT1621 and the GN1621 that remembers a frame's clock events and
+// reads them all again at each sample. It shares nothing with any other model of
+// the chip.
 #![allow(dead_code)]
 
 // The chip's four lines, as bits of a sample.
@@ -7,6 +8,10 @@ pub const CS: u8 = 1;
 pub const WR: u8 = 2;
 pub const RD: u8 = 4;
 pub const DATA: u8 = 8;
+
+// The parts: byte 58 of a record.
+const HT: u8 = 0;
+const GN: u8 = 1;
 
 // What DATA shows: byte 39 of a record.
 const RELEASED: u8 = 0;
@@ -86,18 +91,21 @@ struct Settings {
     test: u8,
 }
 
-/// The counters as three plain counts: 8 x q + p, d, and 256 x w + b.
+/// The counters as four plain counts: 8 x q + p, d, 256 x w + b, and the base
+/// ticks since the scan last began at common 0.
 #[derive(Clone, Copy, PartialEq, Eq, Debug)]
 struct Counts {
     prescale: u64,
     divider: u64,
     chain: u64,
+    scan: u64,
 }
 
-/// The chip: its memory when the frame opened (or now, without a frame), the
-/// frame's history, the lines, the settings and the counts.
+/// The chip: its part, its memory when the frame opened (or now, without a
+/// frame), the frame's history, the lines, the settings and the counts.
 #[derive(Clone, Debug)]
 pub struct Model {
+    part: u8,
     start: [u8; 32],
     history: Option<Vec<Event>>,
     lines: u8,
@@ -133,8 +141,9 @@ enum Name {
     Normal,
 }
 
-// The command list. X is any bit; a, b, c and r name bits that carry a value.
-const COMMANDS: [(&str, Name); 23] = [
+// The commands that both parts list alike. X is any bit; a, b, c and r name bits
+// that carry a value.
+const COMMANDS: [(&str, Name); 22] = [
     ("00000000", Name::SysDis),
     ("00000001", Name::SysEn),
     ("00000010", Name::LcdOff),
@@ -145,7 +154,6 @@ const COMMANDS: [(&str, Name); 23] = [
     ("00000111", Name::WdtEn),
     ("00001000", Name::ToneOff),
     ("00001001", Name::ToneOn),
-    ("000011XX", Name::ClrTimer),
     ("0000111X", Name::ClrWdt),
     ("000101XX", Name::Xtal),
     ("000110XX", Name::Rc),
@@ -159,6 +167,14 @@ const COMMANDS: [(&str, Name); 23] = [
     ("11100000", Name::Test),
     ("11100011", Name::Normal),
 ];
+
+// The one command that each part lists by a pattern of its own.
+fn clr_timer(part: u8) -> (&'static str, Name) {
+    match part {
+        GN => ("000010XX", Name::ClrTimer),
+        _ => ("000011XX", Name::ClrTimer),
+    }
+}
 
 // The bit of a code under the pattern's letter at `place`, from the left.
 fn bit_at(code: u8, place: usize) -> u8 {
@@ -188,10 +204,12 @@ fn carried(pattern: &str, letter: u8, code: u8) -> u8 {
     places.fold(0, |sum, (place, _)| sum * 2 + bit_at(code, place))
 }
 
-// The command of a code: the narrowest pattern that matches, if any does.
-fn named(code: u8) -> Option<(&'static str, Name)> {
-    let matching = COMMANDS.iter().filter(|&&(pattern, _)| matches(pattern, code));
-    let (pattern, name) = *matching.max_by_key(|&&(pattern, _)| fixed(pattern))?;
+// The command of a code in a part: the narrowest of the part's patterns that
+// matches, if any does.
+fn named(part: u8, code: u8) -> Option<(&'static str, Name)> {
+    let listed = COMMANDS.into_iter().chain([clr_timer(part)]);
+    let matching = listed.filter(|&(pattern, _)| matches(pattern, code));
+    let (pattern, name) = matching.max_by_key(|&(pattern, _)| fixed(pattern))?;
     let undefined = name == Name::BiasCom && commons(pattern, code) > 4;
     if undefined {
         None
@@ -205,9 +223,9 @@ fn commons(pattern: &str, code: u8) -> u8 {
     2 + 2 * carried(pattern, b'a', code) + carried(pattern, b'b', code)
 }
 
-/// Whether a command's upper eight bits are defined.
-pub fn defined(code: u8) -> bool {
-    named(code).is_some()
+/// Whether a command's upper eight bits are defined in a part.
+pub fn defined(part: u8, code: u8) -> bool {
+    named(part, code).is_some()
 }
 
 // The number made of bits, first bit highest.
@@ -247,8 +265,8 @@ fn level(bit: u8) -> u8 {
 }
 
 // Reads a frame's history from its start and says what it amounts to, and what
-// its newest event was.
-fn read_again(start: &[u8; 32], history: &[Event]) -> Reading {
+// its newest event was. The part has a say in commands alone.
+fn read_again(part: u8, start: &[u8; 32], history: &[Event]) -> Reading {
     let taken = rises(history);
     if taken.len() < 3 {
         return read_bits(start, history, ID, &taken);
@@ -258,7 +276,7 @@ fn read_again(start: &[u8; 32], history: &[Event]) -> Reading {
         (1, 0, 1) if taken.len() < 9 => read_bits(start, history, WRITE_ADDRESS, &taken[3..]),
         (1, 1, 0) => read_reading(start, history, &taken),
         (1, 0, 1) => read_writing(start, history, &taken),
-        (1, 0, 0) => read_commands(start, history, &taken),
+        (1, 0, 0) => read_commands(part, start, history, &taken),
         _ => read_dead(start, history, &taken),
     }
 }
@@ -391,7 +409,7 @@ fn shown(history: &[Event], place: usize, rises_taken: bool, bit: u8) -> u8 {
 }
 
 // A command frame: nine bits to a command from the ID on, every fall stray.
-fn read_commands(start: &[u8; 32], history: &[Event], taken: &[Taken]) -> Reading {
+fn read_commands(part: u8, start: &[u8; 32], history: &[Event], taken: &[Taken]) -> Reading {
     let bits = &taken[3..];
     let whole = bits.len() / 9 * 9;
     let reading = read_bits(start, history, COMMAND, &bits[whole..]);
@@ -399,7 +417,11 @@ fn read_commands(start: &[u8; 32], history: &[Event], taken: &[Taken]) -> Readin
         return reading;
     }
     let code = number(&bits[whole - 9..whole - 1]) as u8;
-    let answer = if defined(code) { (6, code, 0) } else { (7, code, 0) };
+    let answer = if defined(part, code) {
+        (6, code, 0)
+    } else {
+        (7, code, 0)
+    };
     Reading { answer, ..reading }
 }
 
@@ -474,10 +496,37 @@ impl Counts {
     fn b(&self) -> u64 {
         self.chain % 256
     }
+
+    // Passes base ticks on to the scan, which goes round through the commons.
+    fn scan_on(&mut self, part: u8, commons: u8, base: u64) {
+        let round = scanned(part) * commons as u64;
+        self.scan = (self.scan + base) % round;
+    }
 }
 
-/// The chip at power-on with the caller's memory.
-pub fn power_on(memory: &[u8]) -> Result<Model, Refusal> {
+// How many base ticks a common is scanned. The LCD clock is the system's 256 kHz
+// over 1,024 or 768, and a base tick is eight periods of these.
+fn scanned(part: u8) -> u64 {
+    match part {
+        GN => 768 / 8,
+        _ => 1024 / 8,
+    }
+}
+
+// The part that is told by a number, or the refusal 43.
+fn known(part: u64) -> Result<u8, Refusal> {
+    if part == HT as u64 {
+        Ok(HT)
+    } else if part == GN as u64 {
+        Ok(GN)
+    } else {
+        Err((43, 0))
+    }
+}
+
+/// The chip of a part at power-on with the caller's memory.
+pub fn power_on(part: u64, memory: &[u8]) -> Result<Model, Refusal> {
+    let part = known(part)?;
     if memory.len() != 32 {
         return Err((29, 0));
     }
@@ -488,8 +537,10 @@ pub fn power_on(memory: &[u8]) -> Result<Model, Refusal> {
         prescale: 0,
         divider: 0,
         chain: 0,
+        scan: 0,
     };
     Ok(Model {
+        part,
         start,
         history: None,
         lines: 15,
@@ -532,7 +583,7 @@ impl Model {
             (true, false) => history.push(Event::Rise((sample & DATA) / DATA)),
             (false, true) => history.push(Event::Fall),
         }
-        let answer = read_again(&self.start, history).answer;
+        let answer = read_again(self.part, &self.start, history).answer;
         if answer.0 == 6 {
             self.obey(answer.1);
         }
@@ -544,7 +595,7 @@ impl Model {
         let Some(history) = self.history.take() else {
             return (0, 0, 0);
         };
-        let reading = read_again(&self.start, &history);
+        let reading = read_again(self.part, &self.start, &history);
         self.start = reading.memory;
         if reading.count == 0 {
             (2, 0, 0)
@@ -555,7 +606,7 @@ impl Model {
 
     // Carries out a defined command.
     fn obey(&mut self, code: u8) {
-        let Some((pattern, name)) = named(code) else {
+        let Some((pattern, name)) = named(self.part, code) else {
             return;
         };
         let settings = &mut self.settings;
@@ -588,6 +639,7 @@ impl Model {
             Name::BiasCom => {
                 settings.bias = 2 + carried(pattern, b'c', code);
                 settings.commons = commons(pattern, code);
+                self.counts.scan = 0;
             }
             Name::Tone4k => settings.tone_kind = 4,
             Name::Tone2k => settings.tone_kind = 2,
@@ -613,6 +665,7 @@ impl Model {
             return;
         }
         let base = self.counts.base_ticks(self.settings.clock, ticks as u64);
+        self.counts.scan_on(self.part, self.settings.commons, base);
         if self.settings.time_base == 1 && self.counts.pass_on(self.settings.rate, base) {
             self.settings.flag = 1;
         }
@@ -664,7 +717,7 @@ impl Model {
     // The frame's history read again, or what stands without a frame.
     fn reading(&self) -> Reading {
         match &self.history {
-            Some(history) => read_again(&self.start, history),
+            Some(history) => read_again(self.part, &self.start, history),
             None => read_bits(&self.start, &[], NO_FRAME, &[]),
         }
     }
@@ -689,6 +742,9 @@ impl Model {
         record[55] = self.counts.b() as u8;
         record[56] = (self.counts.chain / 256) as u8;
         record[57] = self.settings.test;
+        record[58] = self.part;
+        record[59] = (self.counts.scan % scanned(self.part)) as u8;
+        record[60] = (self.counts.scan / scanned(self.part)) as u8;
         record
     }
 
@@ -723,9 +779,11 @@ impl Model {
             prescale: 8 * wide(53) + wide(52),
             divider: wide(54),
             chain: 256 * wide(56) + wide(55),
+            scan: scanned(record[58]) * wide(60) + wide(59),
         };
         let settings = settings_of(record);
         Some(Model {
+            part: record[58],
             start,
             history: made_up(record),
             lines: record[32],
@@ -762,6 +820,8 @@ pub fn valid(record: &[u8]) -> bool {
         && record[34] <= most_unfinished(record[33])
         && record[35] as u32 + 256 * (record[36] as u32) < 1 << record[34]
         && (record[33] == READ || record[33] == WRITE || record[37..40] == [0, 0, 0])
+        && (record[59] as u64) < scanned(record[58])
+        && record[60] < record[44]
 }
 
 // Whether one byte of a record is in its range.
@@ -769,7 +829,7 @@ fn in_range(index: usize, byte: u8) -> bool {
     match index {
         0..=32 => byte <= 15,
         33 => byte <= DEAD,
-        34..=36 => true,
+        34..=36 | 59..=60 => true,
         37 => byte <= 63,
         38 => byte <= 3,
         39 | 41 | 50 => byte <= 2,
@@ -781,7 +841,8 @@ fn in_range(index: usize, byte: u8) -> bool {
         54 => byte <= 127,
         55 => true,
         56 => byte <= 3,
-        58..=63 => byte == 0,
+        58 => byte <= GN,
+        61..=63 => byte == 0,
         _ => byte <= 1,
     }
 }
@@ -886,15 +947,16 @@ pub fn read(first: u64, count: u64, room: usize) -> Result<Vec<u8>, Refusal> {
     within(room, stream(&format!("110{:06b}{}", first, texts)))
 }
 
-/// The stream that sends commands.
-pub fn commands(codes: &[u8], room: usize) -> Result<Vec<u8>, Refusal> {
+/// The stream that sends commands to a chip of a part.
+pub fn commands(part: u64, codes: &[u8], room: usize) -> Result<Vec<u8>, Refusal> {
+    let part = known(part)?;
     if codes.is_empty() {
         return Err((21, 0));
     }
     if codes.len() > 32 {
         return Err((31, 0));
     }
-    if let Some(place) = codes.iter().position(|&code| !defined(code)) {
+    if let Some(place) = codes.iter().position(|&code| !defined(part, code)) {
         return Err((24, place as u64));
     }
     let texts: String = codes.iter().map(|code| format!("{:08b}0", code)).collect();
@@ -913,12 +975,12 @@ pub fn decode(noted: &[u8], room: usize) -> Result<Vec<u8>, Refusal> {
     within(room, noted.chunks(4).map(four).collect())
 }
 
-/// What the listing program prints for an input.
+/// What the listing program prints for an input. Its chip is an HT.
 pub fn listing(input: &[u8]) -> Vec<u8> {
     if input.len() > 65_536 {
         return b"long\n".to_vec();
     }
-    let mut chip = power_on(&[0; 32]).expect("32 zeros are a memory");
+    let mut chip = power_on(HT as u64, &[0; 32]).expect("32 zeros are a memory");
     let mut text = String::new();
     let (mut samples, mut ticks) = (0, 0);
     for (offset, &byte) in input.iter().enumerate() {

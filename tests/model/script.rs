@@ -79,16 +79,16 @@ fn ran(returned: Vec<u32>, record: &[u8]) -> String {
     format!("{numbers}\n{pins:x} {}\n{}\n", hex(&cells), hex(record))
 }
 
-// What was returned, and the buffer.
+// What was returned, and the buffer. The number after the room is a first address or a part.
 fn lent(words: &[&str], list: &[u8]) -> String {
     let before = vec![FRESH; number(words[1])];
     let first = || number(words[2]);
     let (returned, buffer): Outcome = match words[0] {
         "p" => due::pins(list, &before),
-        "o" => due::power_on(list, &before),
+        "o" => due::power_on(first(), list, &before),
         "w" => due::write(first(), list, &before),
         "r" => due::read(first(), number(words[3]), &before),
-        "c" => due::commands(list, &before),
+        "c" => due::commands(first(), list, &before),
         "d" => due::decode(list, &before),
         letter => panic!("there is no request {letter}"),
     };

@@ -6,6 +6,10 @@ mod model;
 
 use model::{commands, decode, defined, listing, power_on, read, write, Model};
 
+// The parts, as power-on and the driver are told them.
+const HT: u64 = 0;
+const GN: u64 = 1;
+
 /// Counts the checks and those that went wrong.
 struct Tally {
     checks: u64,
@@ -43,13 +47,23 @@ impl Dice {
 
 // The chip at power-on with zero memory.
 fn fresh() -> Model {
-    power_on(&[0; 32]).expect("32 zeros are a memory")
+    fresh_of(HT)
+}
+
+// The chip of a part at power-on with zero memory.
+fn fresh_of(part: u64) -> Model {
+    power_on(part, &[0; 32]).expect("32 zeros are a memory")
 }
 
 // A chip that has obeyed commands.
 fn commanded(codes: &[u8]) -> Model {
-    let mut chip = fresh();
-    feed(&mut chip, &commands(codes, 1000).expect("defined commands"));
+    commanded_of(HT, codes)
+}
+
+// A chip of a part that has obeyed commands.
+fn commanded_of(part: u64, codes: &[u8]) -> Model {
+    let mut chip = fresh_of(part);
+    feed(&mut chip, &commands(part, codes, 1000).expect("defined commands"));
     chip
 }
 
@@ -89,7 +103,7 @@ fn stream_cases(tally: &mut Tally) {
     tally.same("(d) 31, 2", Err((30, 0)), write(31, &[7, 7], 1000));
     tally.same("(d) read 31, 1", 29, read(31, 1, 1000).map_or(0, |s| s.len()));
     tally.same("(d) read 31, 2", Err((30, 0)), read(31, 2, 1000));
-    tally.same("(e) K=1", 27, commands(&[1], 1000).map_or(0, |s| s.len()));
+    tally.same("(e) K=1", 27, commands(HT, &[1], 1000).map_or(0, |s| s.len()));
     for count in 1..=32 {
         let needed = 21 + 8 * count;
         tally.same(
@@ -108,9 +122,9 @@ fn stream_cases(tally: &mut Tally) {
         tally.same(
             "command length",
             Ok(needed),
-            commands(&vec![3; count], needed).map(|s| s.len()),
+            commands(HT, &vec![3; count], needed).map(|s| s.len()),
         );
-        tally.same("command 25", Err((25, 0)), commands(&vec![3; count], needed - 1));
+        tally.same("command 25", Err((25, 0)), commands(HT, &vec![3; count], needed - 1));
     }
     let five = [
         15, 14, 12, 14, 4, 6, 12, 14, 4, 6, 4, 6, 4, 6, 4, 6, 12, 14, 12, 14, 12, 14, 4, 6, 12, 14, 4, 6, 15,
@@ -149,45 +163,44 @@ fn refusal_cases(tally: &mut Tally) {
     tally.same("25", Err((25, 0)), write(0, &[15], 28));
     tally.same("read 21", Err((21, 0)), read(u64::MAX, 0, 0));
     range_cases(tally);
-    tally.same("commands 21", Err((21, 0)), commands(&[], 0));
-    tally.same("commands 31", Err((31, 0)), commands(&[0x01; 33], 1000));
-    tally.same("commands 31, 160", Err((31, 0)), commands(&[0x01; 160], 3000));
-    tally.same("31 before 24", Err((31, 0)), commands(&[0x2C; 33], 0));
-    tally.same("31 before 24, the last", Err((31, 0)), commands(&[&[0x01; 32][..], &[0x2C]].concat(), 0));
-    tally.same("commands 24", Err((24, 2)), commands(&[0, 1, 0x2C, 0x2C], 0));
+    tally.same("commands 21", Err((21, 0)), commands(HT, &[], 0));
+    tally.same("commands 31", Err((31, 0)), commands(HT, &[0x01; 33], 1000));
+    tally.same("commands 31, 160", Err((31, 0)), commands(HT, &[0x01; 160], 3000));
+    tally.same("31 before 24", Err((31, 0)), commands(HT, &[0x2C; 33], 0));
+    tally.same("31 before 24, the last", Err((31, 0)), commands(HT, &[&[0x01; 32][..], &[0x2C]].concat(), 0));
+    tally.same("commands 24", Err((24, 2)), commands(HT, &[0, 1, 0x2C, 0x2C], 0));
     tally.same("decode 26, none", Err((26, 0)), decode(&[], 0));
     tally.same("decode 26, three", Err((26, 0)), decode(&[2, 2, 2], 0));
     tally.same("decode 26, 132", Err((26, 0)), decode(&[2; 132], 0));
     tally.same("decode 27", Err((27, 2)), decode(&[0, 1, 2, 3], 0));
     tally.same("decode 25", Err((25, 0)), decode(&[0, 1, 1, 1], 0));
-    tally.same("power-on 29", Some((29, 0)), power_on(&[16; 31]).err());
-    tally.same("power-on 29", Some((29, 0)), power_on(&[16; 33]).err());
+    tally.same("power-on 29", Some((29, 0)), power_on(HT, &[16; 31]).err());
+    tally.same("power-on 29", Some((29, 0)), power_on(HT, &[16; 33]).err());
     let mut memory = [15; 32];
     memory[30] = 16;
     memory[31] = 255;
-    tally.same("power-on 23", Some((23, 30)), power_on(&memory).err());
+    tally.same("power-on 23", Some((23, 30)), power_on(HT, &memory).err());
 }
 
 // Case (f), the defined bytes and the 512 codes.
 fn command_cases(tally: &mut Tally) {
     tally.same("(f) 2B commons", 4, commanded(&[0x2B]).record()[44]);
     tally.same("(f) 2B bias", 3, commanded(&[0x2B]).record()[43]);
-    tally.same("(f) 2C", false, defined(0x2C));
-    let undefined = (0..=255).filter(|&code| !defined(code)).count();
-    tally.same("undefined bytes", 88, undefined);
-    let mut passed_over = 0;
-    for code in 0..512u16 {
-        passed_over += nine_bits(tally, code);
-    }
-    tally.same("undefined codes", 176, passed_over);
-    for code in 0..=255u8 {
-        tally.same("defined as tabled", tabled(code), defined(code));
+    for part in [HT, GN] {
+        tally.same("(f) 2C", false, defined(part as u8, 0x2C));
+        let undefined = (0..=255).filter(|&code| !defined(part as u8, code)).count();
+        tally.same("undefined bytes", 88, undefined);
+        let passed_over: u32 = (0..512).map(|code| nine_bits(tally, part, code)).sum();
+        tally.same("undefined codes", 176, passed_over);
+        for code in 0..=255u8 {
+            tally.same("defined as tabled", tabled(part, code), defined(part as u8, code));
+        }
     }
 }
 
-// Sends a nine-bit code; 1 if it was passed over.
-fn nine_bits(tally: &mut Tally, code: u16) -> u32 {
-    let mut chip = fresh();
+// Sends a nine-bit code to a chip of a part; 1 if it was passed over.
+fn nine_bits(tally: &mut Tally, part: u64, code: u16) -> u32 {
+    let mut chip = fresh_of(part);
     feed(&mut chip, &[14, 12, 14, 4, 6, 4, 6]);
     let before = chip.record();
     let mut answer = (0, 0, 0);
@@ -204,27 +217,266 @@ fn nine_bits(tally: &mut Tally, code: u16) -> u32 {
     (answer.0 == 7) as u32
 }
 
-// The defined codes, as the table of the rules lists them.
-fn tabled(code: u8) -> bool {
+// The defined codes of a part, as the table of the rules lists them.
+fn tabled(part: u64, code: u8) -> bool {
     match code {
-        0x00..=0x09 | 0x0C..=0x0F | 0x14..=0x1F | 0x20..=0x2B => true,
+        0x0A..=0x0B => part == GN,
+        0x0C..=0x0D => part == HT,
+        0x00..=0x09 | 0x0E..=0x0F | 0x14..=0x1F | 0x20..=0x2B => true,
         0x40..=0x7F | 0x80..=0x9F | 0xA0..=0xBF | 0xE0 | 0xE3 => true,
         _ => false,
     }
 }
 
-// Case (g).
+// Case (g), of each part.
 fn clear_cases(tally: &mut Tally) {
-    let base = with_bytes(fresh().record(), &[(51, 1), (54, 9), (55, 200), (56, 2)]);
-    for &(code, w, flag) in [(0x0C, 2, 1), (0x0D, 2, 1), (0x0E, 0, 0), (0x0F, 0, 0)].iter() {
-        let mut chip = Model::from_record(&base).expect("a valid record");
-        feed(&mut chip, &commands(&[code], 27).expect("a clear command"));
+    let counted: &[(usize, u8)] = &[(51, 1), (54, 9), (55, 200), (56, 2)];
+    for (part, code, w, flag) in [
+        (HT, 0x0C, 2, 1), (HT, 0x0D, 2, 1), (HT, 0x0E, 0, 0), (HT, 0x0F, 0, 0),
+        (GN, 0x0A, 2, 1), (GN, 0x0B, 2, 1), (GN, 0x0E, 0, 0), (GN, 0x0F, 0, 0),
+    ] {
+        let mut chip = holding(part, counted);
+        feed(&mut chip, &commands(part, &[code], 27).expect("a clear command"));
         let record = chip.record();
         tally.same("(g) d", 0, record[54]);
         tally.same("(g) b", 0, record[55]);
         tally.same("(g) w", w, record[56]);
         tally.same("(g) flag", flag, record[51]);
     }
+}
+
+// The chip of a part at power-on with some bytes of its record set.
+fn holding(part: u64, bytes: &[(usize, u8)]) -> Model {
+    Model::from_record(&with_bytes(fresh_of(part).record(), bytes)).expect("a valid record")
+}
+
+// Sends a byte as a command's code in a frame of its own, by hand: what completes it is answered, and the record then.
+fn sent_by_hand(chip: &mut Model, code: u8) -> ((u8, u8, u8), [u8; 64]) {
+    feed(chip, &[15, 14]);
+    let answers = told(chip, &format!("100{code:08b}0"));
+    feed(chip, &[15]);
+    (answers[11], chip.record())
+}
+
+// 08 to 0F in each part, sent by hand to a chip with the tone off or on, the flag set and d, b and w moved: the answer, and
+// the bytes that differ afterwards.
+fn part_code_cases(tally: &mut Tally) {
+    let clear_timer: &[(usize, u8)] = &[(54, 0), (55, 0)];
+    let clear_wdt: &[(usize, u8)] = &[(51, 0), (54, 0), (55, 0), (56, 0)];
+    let cases: [(u8, [(u8, &[(usize, u8)]); 2]); 8] = [
+        (0x08, [(6, &[(45, 0)]), (6, &[(45, 0)])]),
+        (0x09, [(6, &[(45, 1)]), (6, &[(45, 1)])]),
+        (0x0A, [(7, &[]), (6, clear_timer)]),
+        (0x0B, [(7, &[]), (6, clear_timer)]),
+        (0x0C, [(6, clear_timer), (7, &[])]),
+        (0x0D, [(6, clear_timer), (7, &[])]),
+        (0x0E, [(6, clear_wdt), (6, clear_wdt)]),
+        (0x0F, [(6, clear_wdt), (6, clear_wdt)]),
+    ];
+    for (code, of_parts) in cases {
+        for (part, (answer, changed)) in [HT, GN].into_iter().zip(of_parts) {
+            for tone in [0, 1] {
+                let mut chip = holding(part, &[(45, tone), (51, 1), (54, 9), (55, 200), (56, 2), (59, 7), (60, 1)]);
+                let due = with_bytes(chip.record(), changed);
+                let (answered, record) = sent_by_hand(&mut chip, code);
+                tally.same(&format!("{code:02x} in part {part}"), (answer, code, 0), answered);
+                tally.same(&format!("record after {code:02x} in part {part}"), due.to_vec(), record.to_vec());
+            }
+        }
+    }
+}
+
+// The driver goes by the part that it is told: a code that only one part has, and what its stream does in each.
+fn told_part_cases(tally: &mut Tally) {
+    for (part, own, other) in [(HT, [0x0C, 0x0D], [0x0A, 0x0B]), (GN, [0x0A, 0x0B], [0x0C, 0x0D])] {
+        for code in own {
+            tally.same("own code", Ok(27), commands(part, &[code], 27).map(|stream| stream.len()));
+            tally.same("own code, the other part told", Err((24, 0)), commands(1 - part, &[code], 27));
+        }
+        for code in other {
+            tally.same("the other's code", Err((24, 2)), commands(part, &[own[0], 0x0E, code, 0x2C], 0));
+        }
+        let stream = commands(part, &own, 45).expect("CLR TIMER twice");
+        for chip_part in [HT, GN] {
+            let mut chip = holding(chip_part, &[(54, 9), (55, 200), (56, 2)]);
+            let answers = feed(&mut chip, &stream);
+            let answer = if chip_part == part { 6 } else { 7 };
+            tally.same("CLR TIMER", [(answer, own[0], 0), (answer, own[1], 0)], [answers[25], answers[43]]);
+            let left = if chip_part == part { vec![0, 0, 2] } else { vec![9, 200, 2] };
+            tally.same("d, b, w", left, chip.record()[54..57].to_vec());
+        }
+    }
+    let alike: Vec<u8> = (0..=255).filter(|&code| tabled(HT, code) && tabled(GN, code)).collect();
+    tally.same("codes of both parts", 166, alike.len());
+    for codes in alike.chunks(32) {
+        tally.same("the same stream", commands(HT, codes, 600), commands(GN, codes, 600));
+    }
+}
+
+// Parts that are told: 0 and 1 are known, and whatever else is refused with 43 before all other faults.
+fn unknown_part_cases(tally: &mut Tally) {
+    for part in [2, 3, 255, 256, 257, 1 << 16, 1 << 32, (1 << 32) + 1, 1 << 63, u64::MAX] {
+        for (codes, room) in [(&[1][..], 27), (&[], 0), (&[0x2C], 0), (&[1; 33], 0), (&[1], 26), (&[0x0A], 27)] {
+            tally.same(&format!("commands of part {part}"), Err((43, 0)), commands(part, codes, room));
+        }
+        for memory in [&[0; 32][..], &[], &[0; 31], &[16; 31], &[16; 32], &[0; 33]] {
+            tally.same(&format!("power-on of part {part}"), Some((43, 0)), power_on(part, memory).err());
+        }
+    }
+    for part in [HT, GN] {
+        tally.same("21 of a known part", Err((21, 0)), commands(part, &[], 0));
+        tally.same("31 before 24", Err((31, 0)), commands(part, &[0x2C; 33], 0));
+        tally.same("24 before 25", Err((24, 1)), commands(part, &[1, 0x2C], 0));
+        tally.same("25 of a known part", Err((25, 0)), commands(part, &[1], 26));
+        tally.same("29 before 23", Some((29, 0)), power_on(part, &[16; 33]).err());
+        tally.same("23 of a known part", Some((23, 0)), power_on(part, &[16; 32]).err());
+    }
+}
+
+// Power-on of each part: its bytes 40 to 63, RC, bias 1/2 with 2 commons, 4k, F128, and the part.
+fn power_on_cases(tally: &mut Tally) {
+    for part in [HT, GN] {
+        let memory: Vec<u8> = (0..32).map(|address| address % 16).collect();
+        let mut due = [0; 64];
+        due[..32].copy_from_slice(&memory);
+        let due = with_bytes(due, &[(32, 15), (41, 1), (43, 2), (44, 2), (46, 4), (48, 7), (58, part as u8)]);
+        let got = power_on(part, &memory).map(|chip| chip.record().to_vec());
+        tally.same(&format!("power-on of part {part}"), due.to_vec(), got.unwrap_or_default());
+    }
+}
+
+// Bytes 59 and 60 after so many ticks.
+fn scan_after(chip: &Model, ticks: u32) -> [u8; 2] {
+    let record = ticked(chip, ticks).record();
+    let mut at_once = chip.clone();
+    at_once.advance(ticks as u16);
+    assert_eq!(record, at_once.record(), "ticks one by one and at once");
+    [record[59], record[60]]
+}
+
+// The scan's steps in a chip that runs with XTAL. In an HT the counter goes from 127 to 0, in a GN from 95; then the common
+// steps, and from the last it goes to 0.
+fn scan_cases(tally: &mut Tally) {
+    let xtal = |part, bytes: &[(usize, u8)]| holding(part, &[&[(40, 1), (41, 0)], bytes].concat());
+    for (part, commons, before, ticks, after) in [
+        (HT, 2, [0, 0], 0, [0, 0]), (HT, 2, [0, 0], 1, [1, 0]), (HT, 2, [94, 0], 1, [95, 0]), (HT, 2, [95, 0], 1, [96, 0]),
+        (HT, 2, [96, 0], 1, [97, 0]), (HT, 2, [126, 0], 1, [127, 0]), (HT, 2, [127, 0], 1, [0, 1]), (HT, 2, [127, 1], 1, [0, 0]),
+        (HT, 3, [127, 0], 1, [0, 1]), (HT, 3, [127, 1], 1, [0, 2]), (HT, 3, [127, 2], 1, [0, 0]),
+        (HT, 4, [127, 0], 1, [0, 1]), (HT, 4, [127, 1], 1, [0, 2]), (HT, 4, [127, 2], 1, [0, 3]), (HT, 4, [127, 3], 1, [0, 0]),
+        (HT, 4, [0, 0], 127, [127, 0]), (HT, 4, [0, 0], 128, [0, 1]), (HT, 4, [0, 0], 129, [1, 1]), (HT, 4, [1, 3], 127, [0, 0]),
+        (HT, 4, [0, 0], 511, [127, 3]), (HT, 4, [0, 0], 512, [0, 0]), (HT, 3, [0, 0], 384, [0, 0]), (HT, 3, [0, 0], 383, [127, 2]),
+        (HT, 2, [0, 0], 256, [0, 0]), (HT, 2, [5, 1], 256, [5, 1]), (HT, 2, [0, 0], 96, [96, 0]),
+        (GN, 2, [0, 0], 0, [0, 0]), (GN, 2, [0, 0], 1, [1, 0]), (GN, 2, [94, 0], 1, [95, 0]), (GN, 2, [95, 0], 1, [0, 1]),
+        (GN, 2, [95, 1], 1, [0, 0]), (GN, 3, [95, 0], 1, [0, 1]), (GN, 3, [95, 1], 1, [0, 2]), (GN, 3, [95, 2], 1, [0, 0]),
+        (GN, 4, [95, 0], 1, [0, 1]), (GN, 4, [95, 1], 1, [0, 2]), (GN, 4, [95, 2], 1, [0, 3]), (GN, 4, [95, 3], 1, [0, 0]),
+        (GN, 4, [0, 0], 95, [95, 0]), (GN, 4, [0, 0], 96, [0, 1]), (GN, 4, [0, 0], 97, [1, 1]), (GN, 4, [1, 3], 95, [0, 0]),
+        (GN, 4, [0, 0], 383, [95, 3]), (GN, 4, [0, 0], 384, [0, 0]), (GN, 3, [0, 0], 288, [0, 0]), (GN, 3, [0, 0], 287, [95, 2]),
+        (GN, 2, [0, 0], 192, [0, 0]), (GN, 2, [5, 1], 192, [5, 1]), (GN, 2, [0, 0], 128, [32, 1]), (GN, 4, [0, 0], 65_535, [63, 2]),
+        (HT, 4, [0, 0], 65_535, [127, 3]), (HT, 3, [0, 0], 65_535, [127, 1]), (GN, 2, [0, 0], 65_535, [63, 0]),
+    ] {
+        let chip = xtal(part, &[(44, commons), (59, before[0]), (60, before[1])]);
+        let what = format!("scan of part {part}, {commons} commons, {before:?} after {ticks}");
+        tally.same(&what, after, scan_after(&chip, ticks));
+    }
+}
+
+// What the scan steps with: base ticks while the chip runs, and nothing else.
+fn scan_tick_cases(tally: &mut Tally) {
+    for (part, last) in [(HT, 127), (GN, 95)] {
+        let end: &[(usize, u8)] = &[(44, 3), (59, last), (60, 1)];
+        let chip = |bytes: &[(usize, u8)]| holding(part, &[end, bytes].concat());
+        for (what, bytes, ticks, after) in [
+            ("RC, p 0, seven", &[(40, 1), (41, 1)][..], 7, [last, 1]),
+            ("RC, p 0, eight", &[(40, 1), (41, 1)], 8, [0, 2]),
+            ("RC, p 0, fifteen", &[(40, 1), (41, 1)], 15, [0, 2]),
+            ("RC, p 0, sixteen", &[(40, 1), (41, 1)], 16, [1, 2]),
+            ("RC, p 7, one", &[(40, 1), (41, 1), (52, 7)], 1, [0, 2]),
+            ("RC, p 6, one", &[(40, 1), (41, 1), (52, 6)], 1, [last, 1]),
+            ("EXT, p 6, two, system off", &[(41, 2), (52, 6)], 2, [0, 2]),
+            ("EXT, p 7, one, system on", &[(40, 1), (41, 2), (52, 7)], 1, [0, 2]),
+            ("XTAL, p 3", &[(40, 1), (41, 0), (52, 3)], 1, [0, 2]),
+            ("XTAL, not running", &[(41, 0)], 9, [last, 1]),
+            ("RC, not running", &[(41, 1), (52, 7)], 9, [last, 1]),
+            ("time base on", &[(40, 1), (41, 0), (49, 1)], 1, [0, 2]),
+            ("LCD on", &[(40, 1), (41, 0), (42, 1)], 1, [0, 2]),
+            ("LCD and time base on, slow", &[(40, 1), (41, 0), (42, 1), (48, 0), (49, 1)], 2, [1, 2]),
+            ("EXT, LCD on, not base ticks", &[(41, 2), (42, 1), (52, 0)], 7, [last, 1]),
+        ] {
+            tally.same(&format!("part {part}: {what}"), after, scan_after(&chip(bytes), ticks));
+        }
+    }
+}
+
+// Commands and the scan: each of 20 to 2B begins it anew, whatever the commons were; all other codes leave it.
+fn scan_command_cases(tally: &mut Tally) {
+    for part in [HT, GN] {
+        for commons in 2..=4 {
+            for code in 0..=255u8 {
+                let mut chip = holding(part, &[(44, commons), (59, 41), (60, commons - 1)]);
+                let (_, record) = sent_by_hand(&mut chip, code);
+                let sets = (0x20..=0x2B).contains(&code);
+                let due = if sets { [0, 0] } else { [41, commons - 1] };
+                tally.same(&format!("scan after {code:02x} in part {part}"), due, [record[59], record[60]]);
+                if sets {
+                    tally.same("commons", 2 + (code - 0x20) / 4, record[44]);
+                }
+            }
+        }
+        // 2C, which is undefined, and BIAS with 3 commons where there are 3: only the common had moved, or only the counter.
+        for (code, before, due) in [(0x2C, [0, 2], [0, 2]), (0x24, [0, 2], [0, 0]), (0x24, [9, 0], [0, 0]), (0x2C, [9, 0], [9, 0])] {
+            let mut chip = holding(part, &[(44, 3), (59, before[0]), (60, before[1])]);
+            let (_, record) = sent_by_hand(&mut chip, code);
+            tally.same("scan begun anew", due, [record[59], record[60]]);
+        }
+    }
+}
+
+// Which records are valid in each part: bytes 58 to 63, and byte 60 beside byte 44.
+fn part_validity_cases(tally: &mut Tally) {
+    let base = fresh().record();
+    for byte in 0..=255u8 {
+        tally.same("byte 58", byte <= 1, model::valid(&with_bytes(base, &[(58, byte)])));
+        tally.same("byte 59, HT", byte <= 127, model::valid(&with_bytes(base, &[(59, byte)])));
+        tally.same("byte 59, GN", byte <= 95, model::valid(&with_bytes(base, &[(58, 1), (59, byte)])));
+        for part in 0..2 {
+            for (commons, last) in [(2, 1), (3, 2), (4, 3)] {
+                let record = with_bytes(base, &[(44, commons), (58, part), (60, byte)]);
+                tally.same(&format!("byte 60, {commons} commons"), byte <= last, model::valid(&record));
+            }
+            for place in 61..64 {
+                let record = with_bytes(base, &[(58, part), (place, byte)]);
+                tally.same(&format!("byte {place}"), byte == 0, model::valid(&record));
+            }
+        }
+    }
+    // The same bytes in either part, and a part that is none.
+    for (part, counter, due) in [(0, 95, true), (1, 95, true), (0, 96, true), (1, 96, false), (0, 127, true), (1, 127, false), (2, 0, false), (2, 96, false)] {
+        let record = with_bytes(base, &[(58, part), (59, counter)]);
+        tally.same(&format!("part {part}, counter {counter}"), due, model::valid(&record));
+    }
+    // Zeros from 58 on are an HT with counter and common 0.
+    let chip = Model::from_record(&with_bytes(base, &[(40, 1), (41, 0)])).expect("a valid record");
+    tally.same("zeros are an HT", [0, 1], scan_after(&chip, 128));
+    tally.same("that keeps its part", 0, ticked(&chip, 128).record()[58]);
+}
+
+// The pins of a chip do not depend on part, counter or common.
+fn part_pin_cases(tally: &mut Tally) {
+    let lit: &[(usize, u8)] = &[(0, 15), (31, 9), (40, 1), (42, 1), (44, 3), (45, 1), (47, 1), (50, 1), (53, 5), (55, 130)];
+    let due = holding(HT, lit).pins();
+    tally.same("lit", (3, [7, 1]), (due.0, [due.1[0], due.1[31]]));
+    for (part, counter, common) in [(HT, 127, 2), (HT, 0, 1), (GN, 0, 0), (GN, 95, 2), (GN, 48, 1)] {
+        let chip = holding(part, &[lit, &[(59, counter), (60, common)]].concat());
+        tally.same(&format!("pins of part {part} at {counter}, {common}"), due, chip.pins());
+    }
+}
+
+// Writes and reads of a GN are those of an HT: what is written is read back, and the part stays.
+fn part_stream_cases(tally: &mut Tally) {
+    let mut chip = fresh_of(GN);
+    feed(&mut chip, &write(3, &[5, 10, 15], 45).expect("a write"));
+    tally.same("written to a GN", vec![5, 10, 15], read_back(&mut chip, 3, 3));
+    tally.same("still a GN", 1, chip.record()[58]);
 }
 
 // Cases (h), (i) and (j).
@@ -250,11 +502,11 @@ fn time_out_case(tally: &mut Tally) {
     tally.same("timed out", 1, low.pins().0);
     for &(between, after, pins) in [(0, 0, 0), (0, 1023, 0), (0, 1024, 1), (1023, 0, 0), (1023, 1, 1), (1024, 0, 1)].iter() {
         let mut chip = low.clone();
-        feed(&mut chip, &commands(&[0x80], 27).expect("IRQ DIS"));
+        feed(&mut chip, &commands(HT, &[0x80], 27).expect("IRQ DIS"));
         tally.same("let go", 0, chip.record()[51]);
         chip = ticked(&chip, between);
         tally.same("output off", 0, chip.pins().0);
-        feed(&mut chip, &commands(&[0x88], 27).expect("IRQ EN"));
+        feed(&mut chip, &commands(HT, &[0x88], 27).expect("IRQ EN"));
         tally.same("timed out again", pins, ticked(&chip, after).pins().0);
     }
 }
@@ -375,6 +627,9 @@ fn random_record(dice: &mut Dice) -> [u8; 64] {
     record[43] = 2 + dice.below(2) as u8;
     record[44] = 2 + dice.below(3) as u8;
     record[46] = 2 + 2 * dice.below(2) as u8;
+    record[58] = dice.below(2) as u8;
+    record[59] = dice.below([128, 96][record[58] as usize]) as u8;
+    record[60] = dice.below(record[44] as u64) as u8;
     record
 }
 
@@ -412,6 +667,10 @@ fn tick_in_words(record: &mut [u8; 64]) {
         }
     }
     record[53] = (record[53] + 1) % 16;
+    record[59] = (record[59] + 1) % if record[58] == 0 { 128 } else { 96 };
+    if record[59] == 0 {
+        record[60] = (record[60] + 1) % record[44];
+    }
     if record[49] == 0 {
         return;
     }
@@ -451,7 +710,7 @@ fn advance_cases(tally: &mut Tally) {
 // The rules of frames that are easily got wrong.
 fn frame_cases(tally: &mut Tally) {
     let write_head = [14, 12, 14, 4, 6, 12, 14, 4, 6, 4, 6, 4, 6, 4, 6, 4, 6, 4, 6];
-    let mut chip = power_on(&[6; 32]).expect("a memory");
+    let mut chip = power_on(HT, &[6; 32]).expect("a memory");
     feed(&mut chip, &write_head);
     // Four bits read in a 101 frame cycle and never step the address.
     for bit in [0, 1, 1, 0, 0].iter() {
@@ -483,7 +742,7 @@ fn frame_cases(tally: &mut Tally) {
     let mut memory = [0; 32];
     memory[31] = 8;
     memory[0] = 1;
-    let mut chip = power_on(&memory).expect("a memory");
+    let mut chip = power_on(HT, &memory).expect("a memory");
     feed(
         &mut chip,
         &[
@@ -515,7 +774,7 @@ fn even(answers: &[(u8, u8, u8)]) -> Vec<(u8, u8, u8)> {
 // The pins' numbers and cells.
 fn pin_cases(tally: &mut Tally) {
     let memory: Vec<u8> = (0..32).map(|s| s % 16).collect();
-    let base = power_on(&memory).expect("a memory").record();
+    let base = power_on(HT, &memory).expect("a memory").record();
     let shown = |bytes: &[(usize, u8)]| {
         Model::from_record(&with_bytes(base, bytes))
             .expect("valid")
@@ -589,13 +848,13 @@ fn effect_cases(tally: &mut Tally) {
     for &(before, code, changed) in cases {
         let base = with_bytes(fresh().record(), before);
         let mut chip = Model::from_record(&base).expect("a valid record");
-        feed(&mut chip, &commands(&[code], 27).expect("a defined command"));
+        feed(&mut chip, &commands(HT, &[code], 27).expect("a defined command"));
         let due = with_bytes(base, changed).to_vec();
         tally.same(&format!("effect of {:02x}", code), due, chip.record().to_vec());
     }
 }
 
-// The range of each byte, as the rules list them.
+// The range of each byte of an HT with 2 commons, as the rules list them.
 fn range_of(index: usize) -> std::ops::RangeInclusive<u8> {
     match index {
         0..=32 => 0..=15,
@@ -609,7 +868,8 @@ fn range_of(index: usize) -> std::ops::RangeInclusive<u8> {
         53 => 0..=15,
         54 => 0..=127,
         55 => 0..=255,
-        40 | 42 | 45 | 47 | 49 | 51 | 57 => 0..=1,
+        40 | 42 | 45 | 47 | 49 | 51 | 57 | 58 | 60 => 0..=1,
+        59 => 0..=127,
         _ => 0..=0,
     }
 }
@@ -659,7 +919,7 @@ fn validity_cases(tally: &mut Tally) {
 // In a 101 frame a whole nibble sets the reading position to D0; single bits
 // leave it, and any bit taken releases DATA.
 fn position_cases(tally: &mut Tally) {
-    let mut chip = power_on(&[6; 32]).expect("a memory");
+    let mut chip = power_on(HT, &[6; 32]).expect("a memory");
     feed(&mut chip, &write(30, &[0], 29).expect("a write")[..20]);
     tally.same(
         "D0, D1",
@@ -697,7 +957,7 @@ fn told(chip: &mut Model, text: &str) -> Vec<(u8, u8, u8)> {
 
 // Opens a frame on a memory, and sends its ID and its six address bits.
 fn opened(memory: &[u8], head: &str) -> Model {
-    let mut chip = power_on(memory).expect("a memory");
+    let mut chip = power_on(HT, memory).expect("a memory");
     feed(&mut chip, &[14]);
     told(&mut chip, head);
     chip
@@ -786,7 +1046,7 @@ fn modify_past_cases(tally: &mut Tally) {
 
 // Frames that go on from a record with an address past the memory.
 fn records_past_cases(tally: &mut Tally) {
-    let base = with_bytes(power_on(&[5; 32]).expect("a memory").record(), &[(32, 14)]);
+    let base = with_bytes(power_on(HT, &[5; 32]).expect("a memory").record(), &[(32, 14)]);
     let held = |bytes: &[(usize, u8)]| Model::from_record(&with_bytes(base, bytes)).expect("a valid record");
     let mut chip = held(&[(33, 4), (37, 63), (38, 3)]);
     tally.same("D3 of 63, D0 of 0", vec![(8, 63, 0), (8, 0, 1)], told(&mut chip, "RR"));
@@ -806,6 +1066,16 @@ fn main() {
         refusal_cases,
         command_cases,
         clear_cases,
+        part_code_cases,
+        told_part_cases,
+        unknown_part_cases,
+        power_on_cases,
+        scan_cases,
+        scan_tick_cases,
+        scan_command_cases,
+        part_validity_cases,
+        part_pin_cases,
+        part_stream_cases,
         tick_cases,
         time_out_case,
         decode_cases,

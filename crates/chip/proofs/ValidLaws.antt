@@ -34,7 +34,7 @@ pub settingsAfter-valid : (upshot : Upshot) (s : Settings) → SettingsValid s �
 unfolding settingsAfter
 settingsAfter-valid (Answered answer) s v = v
 settingsAfter-valid (Nibble at nibble) s v = v
-settingsAfter-valid (Code code) s v = obeyedAs-valid (codeMeaning (2 * code)) (code-proper (2 * code)) s v
+settingsAfter-valid (Code code) s v = obeyedAs-valid (codeMeaning (s .part) (2 * code)) (code-proper (s .part) (2 * code)) s v
 
 pub steppedTo-valid : (chip : Chip) (new : Levels) → Valid chip → Valid (steppedTo chip new .chip)
 unfolding steppedTo

@@ -3,6 +3,7 @@
 use Prim.Native.Nat.{ℕ, _*_}
 use mathlib.Core.Bool.{cond}
 use lib.Dec.{ltb}
+use Rattle.ground.specs.declared.Part.{Part}
 use Rattle.ground.specs.declared.Refusal.the-variants.{SampleAbove}
 use Rattle.commands.specs.declared.Decoded.{Decoded}
 use Rattle.commands.specs.declared.Decoded.the-variants.{Undefined, Means}
@@ -32,24 +33,24 @@ obeyedAs Undefined settings = settings
 obeyedAs (Means command) settings = effect command settings
 
 -- What a sample is answered, by what it came to in its frame. A nibble is answered with its address also from 32 on, where the memory
--- has none for it.
-abbrev pub told : Upshot → Answer
-told (Answered answer) = answer
-told (Nibble at nibble) = Stored at nibble
-told (Code code) = decodedAnswer (codeMeaning (2 * code)) code
+-- has none for it; a code goes by the part.
+abbrev pub told : Part → Upshot → Answer
+told part (Answered answer) = answer
+told part (Nibble at nibble) = Stored at nibble
+told part (Code code) = decodedAnswer (codeMeaning part (2 * code)) code
 
 -- And only a command changes the settings.
 unfoldable pub settingsAfter : Upshot → Settings → Settings
 settingsAfter (Answered answer) settings = settings
 settingsAfter (Nibble at nibble) settings = settings
-settingsAfter (Code code) settings = obeyedAs (codeMeaning (2 * code)) settings
+settingsAfter (Code code) settings = obeyedAs (codeMeaning (settings .part) (2 * code)) settings
 
 -- The chip after a sample, by what the sample made of its port.
 abbrev pub steppedAs : Chip → Moved → Stepped
 steppedAs chip result =
     record {
       chip = record { port = result .port; settings = settingsAfter (result .upshot) (chip .settings) };
-      answer = told (result .upshot);
+      answer = told (chip .settings .part) (result .upshot);
     }
 
 -- The same where a code is complete.

@@ -25,7 +25,8 @@ pub struct Stepped {
 fn commanded(port: Port, settings: Settings, code: u8) -> Stepped
     ensures { λ r. ⌜ r ≡ commanded port settings code ⌝ }
 {
-    match commands::meaning(2 * (code as u16)) {
+    let part = settings.part;
+    match commands::meaning(part, 2 * (code as u16)) {
         Decoded::Undefined => Stepped {
             chip: Chip { port, settings },
             answer: Answer::Passed(code),

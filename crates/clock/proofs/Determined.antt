@@ -8,6 +8,8 @@ use Rattle.clock.proofs.Timer.cleared.Kinds as cleared-kinds
 use Rattle.clock.proofs.Timer.cleared.Reads as cleared-reads
 use Rattle.clock.proofs.Timer.watchdog_cleared.Kinds as watchdog-cleared-kinds
 use Rattle.clock.proofs.Timer.watchdog_cleared.Reads as watchdog-cleared-reads
+use Rattle.clock.proofs.Scan.ticked.Kinds as scan-ticked-kinds
+use Rattle.clock.proofs.Scan.ticked.Reads as scan-ticked-reads
 use Rattle.clock.proofs.Counters.ticked.Kinds as ticked-kinds
 use Rattle.clock.proofs.Counters.ticked.Reads as ticked-reads
 
@@ -22,3 +24,6 @@ watchdog-cleared-determined κs args x y end end' p q = p ∙ sym q
 
 pub ticked-determined : Determined 0 ticked-kinds.ps ticked-kinds.r ticked-reads.Post
 ticked-determined κs args x y end end' p q = p ∙ sym q
+
+pub scan-ticked-determined : Determined 0 scan-ticked-kinds.ps scan-ticked-kinds.r scan-ticked-reads.Post
+scan-ticked-determined κs args x y end end' p q = p ∙ sym q

@@ -1,7 +1,12 @@
 // The clock's counters: each is a small struct that goes in by value and comes back stepped.
 ghost use mathlib.Core.Path.{_≡_};
+ghost use Prim.Native.Nat.{_+_, _%_};
+ghost use Rattle.commands.specs.Numbers.{commonsNumber};
 ghost use Rattle.clock.specs.Numbers.{sourceNumber};
-ghost use Rattle.clock.specs.Ticks.{prescalerStepped, tonerStepped, dividerStepped, baseStepped, watchdogStepped, due, timerStepped, baseTicked, prescaledTick, countersTicked, timerCleared, watchdogCleared};
+ghost use Rattle.clock.specs.Sizes.{scanSize};
+ghost use Rattle.clock.specs.Ticks.{prescalerStepped, tonerStepped, dividerStepped, baseStepped, watchdogStepped, due, timerStepped, scanStepped, baseTicked, prescaled, isBaseTick, countersTicked, scanTicked, timerCleared, watchdogCleared};
+use commands::Commons;
+use ground::Part;
 
 // How many values each counter goes through.
 pub const PRESCALER_SIZE: u16 = 8;
@@ -13,6 +18,10 @@ pub const DIVIDER_SIZE: u16 = 128;
 pub const BASE_SIZE: u16 = 256;
 
 pub const WATCHDOG_SIZE: u16 = 4;
+
+pub const HT_SCAN_SIZE: u16 = 128;
+
+pub const GN_SCAN_SIZE: u16 = 96;
 
 // Where the system clock comes from.
 pub enum Source {
@@ -60,6 +69,12 @@ pub struct Counters {
     pub timer: Timer,
 }
 
+// The scan of the LCD: how far it is with a common, and which one.
+pub struct Scan {
+    pub count: u8,
+    pub common: u8,
+}
+
 impl Source {
     // Its number in the state record.
     pub fn number(self) -> u8
@@ -79,6 +94,28 @@ impl Prescaler {
     {
         Prescaler {
             count: ((self.count as u16 + 1) % PRESCALER_SIZE) as u8,
+        }
+    }
+
+    // A tick of this source.
+    fn ticked(self, source: Source) -> Prescaler
+        ensures { λ r. ⌜ r ≡ prescaled source self ⌝ }
+    {
+        match source {
+            Source::Xtal => self,
+            Source::Rc => self.stepped(),
+            Source::Ext => self.stepped(),
+        }
+    }
+
+    // Whether the tick that led here is a base tick.
+    fn is_base_tick(self, source: Source) -> bool
+        ensures { λ r. ⌜ r ≡ isBaseTick source self ⌝ }
+    {
+        match source {
+            Source::Xtal => true,
+            Source::Rc => self.count == 0,
+            Source::Ext => self.count == 0,
         }
     }
 }
@@ -201,26 +238,59 @@ impl Counters {
         Counters { toner, ..self }
     }
 
-    // A tick of RC or EXT: one in eight is a base tick.
-    fn prescaled_tick(self, on: bool, rate: u8) -> Counters
-        ensures { λ r. ⌜ r ≡ prescaledTick on rate self ⌝ }
-    {
-        let prescaler = self.prescaler.stepped();
-        let next = Counters { prescaler, ..self };
-        if prescaler.count == 0 {
-            return next.base_ticked(on, rate);
-        }
-        next
-    }
-
     // A tick while the chip is running.
     pub fn ticked(self, source: Source, on: bool, rate: u8) -> Counters
         ensures { λ r. ⌜ r ≡ countersTicked source on rate self ⌝ }
     {
-        match source {
-            Source::Xtal => self.base_ticked(on, rate),
-            Source::Rc => self.prescaled_tick(on, rate),
-            Source::Ext => self.prescaled_tick(on, rate),
+        let prescaler = self.prescaler.ticked(source);
+        let next = Counters { prescaler, ..self };
+        if prescaler.is_base_tick(source) {
+            return next.base_ticked(on, rate);
         }
+        next
+    }
+}
+
+impl Scan {
+    // The counter after a base tick.
+    fn count_after(self, part: Part) -> u8
+        ensures { λ r. ⌜ r ≡ (self .count + 1) % scanSize part ⌝ }
+    {
+        match part {
+            Part::Ht => ((self.count as u16 + 1) % HT_SCAN_SIZE) as u8,
+            Part::Gn => ((self.count as u16 + 1) % GN_SCAN_SIZE) as u8,
+        }
+    }
+
+    // The common to be scanned next.
+    fn common_after(self, commons: Commons) -> u8
+        ensures { λ r. ⌜ r ≡ (self .common + 1) % commonsNumber commons ⌝ }
+    {
+        match commons {
+            Commons::Two => ((self.common as u16 + 1) % 2) as u8,
+            Commons::Three => ((self.common as u16 + 1) % 3) as u8,
+            Commons::Four => ((self.common as u16 + 1) % 4) as u8,
+        }
+    }
+
+    fn stepped(self, part: Part, commons: Commons) -> Scan
+        ensures { λ r. ⌜ r ≡ scanStepped part commons self ⌝ }
+    {
+        let count = self.count_after(part);
+        if count == 0 {
+            let common = self.common_after(commons);
+            return Scan { count, common };
+        }
+        Scan { count, ..self }
+    }
+
+    // A tick while the chip is running, p as the tick leaves it.
+    pub fn ticked(self, source: Source, prescaler: Prescaler, part: Part, commons: Commons) -> Scan
+        ensures { λ r. ⌜ r ≡ scanTicked source prescaler part commons self ⌝ }
+    {
+        if prescaler.is_base_tick(source) {
+            return self.stepped(part, commons);
+        }
+        self
     }
 }

@@ -1,38 +1,42 @@
 -- Laws of RULES "Commands". Assumes nothing.
 use mathlib.Core.Path.{_≡_, refl}
 use mathlib.Core.Bool.{_||_}
-use Prim.Native.Nat.{ℕ, zero, suc, _*_, _/_, _<_}
+use Prim.Native.Nat.{ℕ, zero, suc, _+_, _*_, _/_, _<_}
 use native.Mathlib.Omega.{arith}
 use lib.Dec.{eqb, ltb}
 use borrow.Author.Tests.{le-ltb}
 use Rattle.ground.proofs.ChoiceLaws.{either}
+use Rattle.ground.specs.declared.Part.{Part}
+use Rattle.ground.specs.declared.Part.the-variants.{Ht, Gn}
 use Rattle.commands.specs.declared.Bias.the-variants.{Half, Third}
 use Rattle.commands.specs.declared.Commons.the-variants.{Two, Three, Four}
 use Rattle.commands.specs.declared.Command.{Command}
 use Rattle.commands.specs.declared.Command.the-variants.{SysDis, SysEn, LcdOff, LcdOn, TimerDis, WdtDis, TimerEn, WdtEn, ToneOff, ToneOn, ClrTimer, ClrWdt, Xtal32k, Rc256k, Ext256k, BiasCom, Tone4k, Tone2k, IrqDis, IrqEn, Rate, Test, Normal}
 use Rattle.commands.specs.declared.Decoded.the-variants.{Means}
-use Rattle.commands.specs.Commands.{within, byteMeaning, codeMeaning, undefined, commandFault, below, Proper, ProperMeaning}
+use Rattle.commands.specs.Commands.{within, clrTimer, byteMeaning, codeMeaning, undefined, commandFault, below, Proper, ProperMeaning}
 use Rattle.commands.specs.Numbers.{commandNumber}
 
--- 88 upper bytes are undefined
-pub undefined-bytes : below 256 (λ byte. undefined (byteMeaning byte)) ≡ 88
+-- in each part 88 upper bytes are undefined
+pub undefined-bytes : (part : Part) → below 256 (λ byte. undefined (byteMeaning part byte)) ≡ 88
 unfolding byteMeaning
-undefined-bytes = refl
+undefined-bytes Ht = refl
+undefined-bytes Gn = refl
 
 -- and so 176 of the 512 codes
-pub undefined-codes : below 512 (λ code. undefined (codeMeaning code)) ≡ 176
+pub undefined-codes : (part : Part) → below 512 (λ code. undefined (codeMeaning part code)) ≡ 176
 unfolding byteMeaning codeMeaning
-undefined-codes = refl
+undefined-codes Ht = refl
+undefined-codes Gn = refl
 
 -- a command asked for by a byte is at fault where that byte has no meaning
-pub byte-fault : (code : ℕ) → code < 256 → commandFault code ≡ undefined (byteMeaning code)
+pub byte-fault : (part : Part) (code : ℕ) → code < 256 → commandFault part code ≡ undefined (byteMeaning part code)
 unfolding commandFault codeMeaning
-byte-fault code h =
+byte-fault part code h =
     let half : 2 * code / 2 ≡ code = omega arith in
     simp (le-ltb 511 (2 * code) (omega arith), half)
 
--- the number of a command is a code that means it
-pub number-means : (command : Command) → Proper command → byteMeaning (commandNumber command) ≡ Means command
+-- the number of a command is a code that means it in the HT
+pub number-means : (command : Command) → Proper command → byteMeaning Ht (commandNumber command) ≡ Means command
 unfolding byteMeaning
 number-means SysDis p = refl
 number-means SysEn p = refl
@@ -72,9 +76,9 @@ number-means Test p = refl
 number-means Normal p = refl
 
 -- every rate that a code means is one of the eight
-pub byte-proper : (byte : ℕ) → ProperMeaning (byteMeaning byte)
+pub byte-proper : (part : Part) (byte : ℕ) → ProperMeaning (byteMeaning part byte)
 unfolding byteMeaning
-byte-proper byte =
+byte-proper part byte =
     (either ProperMeaning (eqb byte 0x00) tt
     (either ProperMeaning (eqb byte 0x01) tt
     (either ProperMeaning (eqb byte 0x02) tt
@@ -85,7 +89,7 @@ byte-proper byte =
     (either ProperMeaning (eqb byte 0x07) tt
     (either ProperMeaning (eqb byte 0x08) tt
     (either ProperMeaning (eqb byte 0x09) tt
-    (either ProperMeaning (within 0x0C 0x0D byte) tt
+    (either ProperMeaning (within (clrTimer part) (clrTimer part + 1) byte) tt
     (either ProperMeaning (within 0x0E 0x0F byte) tt
     (either ProperMeaning (within 0x14 0x17 byte) tt
     (either ProperMeaning (within 0x18 0x1B byte) tt
@@ -99,6 +103,6 @@ byte-proper byte =
     (either ProperMeaning (eqb byte 0xE0) tt
     (either ProperMeaning (eqb byte 0xE3) tt tt)))))))))))))))))))))))
 
-pub code-proper : (code : ℕ) → ProperMeaning (codeMeaning code)
+pub code-proper : (part : Part) (code : ℕ) → ProperMeaning (codeMeaning part code)
 unfolding codeMeaning
-code-proper code = either ProperMeaning (ltb 511 code) tt (byte-proper (code / 2))
+code-proper part code = either ProperMeaning (ltb 511 code) tt (byte-proper part (code / 2))

@@ -1,4 +1,4 @@
--- The table of the 512 codes follows the pattern rule, and the numbers in it can be read back: two tests, which antt
+-- The table of the 512 codes follows the pattern rule in both parts, and the numbers in it can be read back: tests, which antt
 -- computes over every code, and one law that carries a test to the code at hand. Assumes nothing.
 use mathlib.Core.Path.{_≡_, _∙_, refl, sym, ap}
 use mathlib.Core.Bool.{true, false, cond}
@@ -6,9 +6,11 @@ use mathlib.Core.List.{List, [], _∷_}
 use Prim.Native.Nat.{ℕ, _*_, _%_, _<_}
 use native.Mathlib.Decide.{decLt}
 use native.Mathlib.Omega.{arith}
-use lib.Dec.{eqb}
+use lib.Dec.{eqb, ltb}
 use lib.ListN.{getD}
-use borrow.Author.Tests.{lt-ltb, ne-eqb}
+use borrow.Author.Tests.{lt-ltb, ltb-true, ne-eqb}
+use Rattle.ground.specs.declared.Part.{Part}
+use Rattle.ground.specs.declared.Part.the-variants.{Ht, Gn}
 use Rattle.commands.specs.declared.Bias.the-variants.{Half, Third}
 use Rattle.commands.specs.declared.Commons.the-variants.{Two, Three, Four}
 use Rattle.commands.specs.declared.Command.{Command}
@@ -16,7 +18,7 @@ use Rattle.commands.specs.declared.Command.the-variants.{SysDis, SysEn, 
 use Rattle.commands.specs.declared.Decoded.{Decoded}
 use Rattle.commands.specs.declared.Decoded.the-variants.{Undefined, Means}
 use Rattle.commands.specs.Commands.{within, byteMeaning, codeMeaning, undefined, commandFault}
-use Rattle.commands.specs.Numbers.{decodedNumber}
+use Rattle.commands.specs.Numbers.{decodedNumber, swapped, entryOf}
 use Rattle.ground.specs.Values.{values, values-at, agree}
 
 -- the arms of the decoder for a single number, the last one first
@@ -68,30 +70,58 @@ pub lookup-misses : (n : ℕ) (rest : List (ℕ × Command)) → Misses n rest �
 lookup-misses n [] m = refl
 lookup-misses n (row ∷ rest) m = simp (ne-eqb _ _ (m .1), lookup-misses n rest (m .0))
 
--- the number that the rule gives a code
-abbrev pub ruled : ℕ → ℕ
-ruled code = decodedNumber (codeMeaning code)
+-- the number that the rule gives a code of a part
+abbrev pub ruled : Part → ℕ → ℕ
+ruled part code = decodedNumber (codeMeaning part code)
 
 -- the test of the numbers: each stands for what the rule says
-told : values (λ code. named (ruled code)) 0 512 ≡ values codeMeaning 0 512
+told : values (λ code. named (ruled Ht code)) 0 512 ≡ values (codeMeaning Ht) 0 512
 unfolding codeMeaning byteMeaning
 told = refl
 
--- a table that passes the test, entry by entry, has the number that the rule gives each code
-pub table-follows : (table : List ℕ) → table ≡ values ruled 0 512 → (code : ℕ) → code < 512 → getD table code 0 ≡ ruled code
-table-follows table same code h = ap (λ (l : List ℕ). getD l code 0) same ∙ values-at ruled 512 code 0 h
+-- the test of the GN: its codes are the HT's, but for those that have changed places
+moved : values (codeMeaning Gn) 0 512 ≡ values (λ code. codeMeaning Ht (swapped code)) 0 512
+unfolding codeMeaning byteMeaning swapped
+moved = refl
 
-pub past-undefined : (code : ℕ) → 511 < code → codeMeaning code ≡ Undefined
+-- where they go there are codes
+stays : values (λ code. ltb (swapped code) 512) 0 512 ≡ values (λ code. true) 0 512
+unfolding swapped
+stays = refl
+
+-- ---- each part by the entries of the table
+
+pub entry-there : (part : Part) (code : ℕ) → code < 512 → entryOf part code < 512
+unfolding entryOf
+entry-there Ht code h = h
+entry-there Gn code h = ltb-true _ _ (agree (λ k. ltb (swapped k) 512) (λ k. true) 512 stays code h)
+
+pub same-as-ht : (part : Part) (code : ℕ) → code < 512 → codeMeaning part code ≡ codeMeaning Ht (entryOf part code)
+unfolding entryOf
+same-as-ht Ht code h = refl
+same-as-ht Gn code h = agree (codeMeaning Gn) (λ k. codeMeaning Ht (swapped k)) 512 moved code h
+
+-- a table that passes the test, entry by entry, has the number that the rule gives each code, at its entry
+pub table-follows : (table : List ℕ) → table ≡ values (ruled Ht) 0 512 → (part : Part) (code : ℕ) → code < 512
+    → getD table (entryOf part code) 0 ≡ ruled part code
+table-follows table same part code h =
+    ap (λ (l : List ℕ). getD l (entryOf part code) 0) same
+    ∙ values-at (ruled Ht) 512 (entryOf part code) 0 (entry-there part code h) ∙ sym (ap decodedNumber (same-as-ht part code h))
+
+pub past-undefined : (part : Part) (code : ℕ) → 511 < code → codeMeaning part code ≡ Undefined
 unfolding codeMeaning
-past-undefined code h = simp (lt-ltb _ _ h)
+past-undefined part code h = simp (lt-ltb _ _ h)
 
-either : (code : ℕ) → Dec (code < 512) → named (ruled code) ≡ codeMeaning code
-either code (yes h) = agree (λ k. named (ruled k)) codeMeaning 512 told code h
-either code (no h) = simp (past-undefined code (omega arith))
+either : (part : Part) (code : ℕ) → Dec (code < 512) → named (ruled part code) ≡ codeMeaning part code
+either part code (yes h) =
+    ap (λ (d : Decoded). named (decodedNumber d)) (same-as-ht part code h)
+    ∙ agree (λ k. named (ruled Ht k)) (codeMeaning Ht) 512 told (entryOf part code) (entry-there part code h)
+    ∙ sym (same-as-ht part code h)
+either part code (no h) = simp (past-undefined part code (omega arith))
 
 -- whoever knows the number that the rule gives a code knows its meaning
-pub named-ruled : (code n : ℕ) → n ≡ ruled code → named n ≡ codeMeaning code
-named-ruled code n e = ap named e ∙ either code (decLt code 512)
+pub named-ruled : (part : Part) (code n : ℕ) → n ≡ ruled part code → named n ≡ codeMeaning part code
+named-ruled part code n e = ap named e ∙ either part code (decLt code 512)
 
 -- ---- the numbers of commands asked for by a byte
 
@@ -100,15 +130,15 @@ defined : (d : Decoded) → (decodedNumber d ≡ 0xFF → ⊥) → undefined d �
 defined Undefined not = absurd (not refl)
 defined (Means command) not = refl
 
-module _ (table : List ℕ) (code : ℕ) (same : table ≡ values ruled 0 512) (h : code < 256) where
-  entry : getD table (2 * code) 0 ≡ ruled (2 * code)
-  entry = table-follows table same (2 * code) (omega arith)
+module _ (table : List ℕ) (part : Part) (code : ℕ) (same : table ≡ values (ruled Ht) 0 512) (h : code < 256) where
+  entry : getD table (entryOf part (2 * code)) 0 ≡ ruled part (2 * code)
+  entry = table-follows table same part (2 * code) (omega arith)
 
   -- a command is at fault where its entry is 255, and only there
-  pub at-fault : getD table (2 * code) 0 ≡ 0xFF → commandFault code ≡ true
+  pub at-fault : getD table (entryOf part (2 * code)) 0 ≡ 0xFF → commandFault part code ≡ true
   unfolding commandFault
-  at-fault e = ap undefined (sym (named-ruled (2 * code) 0xFF (sym e ∙ entry)))
+  at-fault e = ap undefined (sym (named-ruled part (2 * code) 0xFF (sym e ∙ entry)))
 
-  pub not-at-fault : (getD table (2 * code) 0 ≡ 0xFF → ⊥) → commandFault code ≡ false
+  pub not-at-fault : (getD table (entryOf part (2 * code)) 0 ≡ 0xFF → ⊥) → commandFault part code ≡ false
   unfolding commandFault
-  not-at-fault not = defined (codeMeaning (2 * code)) (λ e. not (entry ∙ e))
+  not-at-fault not = defined (codeMeaning part (2 * code)) (λ e. not (entry ∙ e))

@@ -1,7 +1,9 @@
--- RULES "Commands": what each nine-bit code means. Assumes nothing.
+-- RULES "Commands": what each nine-bit code means, in each part. Assumes nothing.
 use Prim.Native.Nat.{ℕ, zero, suc, _+_, _*_, _/_, _%_, _<_}
 use mathlib.Core.Bool.{Bool, true, false, cond, _&&_, _||_}
 use lib.Dec.{eqb, leb, ltb}
+use Rattle.ground.specs.declared.Part.{Part}
+use Rattle.ground.specs.declared.Part.the-variants.{Ht, Gn}
 use Rattle.commands.specs.declared.Bias.{Bias}
 use Rattle.commands.specs.declared.Bias.the-variants.{Half, Third}
 use Rattle.commands.specs.declared.Commons.{Commons}
@@ -22,10 +24,15 @@ biasBy c = cond (eqb c 0) Half Third
 abbrev pub commonsBy : ℕ → Commons
 commonsBy ab = cond (eqb ab 0) Two (cond (eqb ab 1) Three Four)
 
--- The pattern rule: the meaning that the upper eight bits of a code decide, row by row as RULES lists them. CLR WDT
--- stands apart from CLR TIMER, whose pattern in the data sheets covers it.
-unfoldable pub byteMeaning : ℕ → Decoded
-byteMeaning byte =
+-- The one row in which the parts differ: CLR TIMER has two upper bytes, from this one on. Its pattern in the data sheets is wider,
+-- 0000-11XX for the HT and 0000-10XX for the GN, and covers CLR WDT in the one and the tone's switch in the other, which stand apart.
+abbrev pub clrTimer : Part → ℕ
+clrTimer Ht = 0x0C
+clrTimer Gn = 0x0A
+
+-- The pattern rule: the meaning that the upper eight bits of a code decide, row by row as RULES lists them.
+unfoldable pub byteMeaning : Part → ℕ → Decoded
+byteMeaning part byte =
     cond (eqb byte 0x00) (Means SysDis)
     (cond (eqb byte 0x01) (Means SysEn)
     (cond (eqb byte 0x02) (Means LcdOff)
@@ -36,7 +43,7 @@ byteMeaning byte =
     (cond (eqb byte 0x07) (Means WdtEn)
     (cond (eqb byte 0x08) (Means ToneOff)
     (cond (eqb byte 0x09) (Means ToneOn)
-    (cond (within 0x0C 0x0D byte) (Means ClrTimer)
+    (cond (within (clrTimer part) (clrTimer part + 1) byte) (Means ClrTimer)
     (cond (within 0x0E 0x0F byte) (Means ClrWdt)
     (cond (within 0x14 0x17 byte) (Means Xtal32k)
     (cond (within 0x18 0x1B byte) (Means Rc256k)
@@ -52,8 +59,8 @@ byteMeaning byte =
     Undefined))))))))))))))))))))))
 
 -- A nine-bit code means what its upper eight bits decide; a number above 511 is no code and means nothing.
-unfoldable pub codeMeaning : ℕ → Decoded
-codeMeaning code = cond (ltb 511 code) Undefined (byteMeaning (code / 2))
+unfoldable pub codeMeaning : Part → ℕ → Decoded
+codeMeaning part code = cond (ltb 511 code) Undefined (byteMeaning part (code / 2))
 
 -- How many numbers below n pass a test.
 abbrev pub below : ℕ → (ℕ → Bool) → ℕ
@@ -66,8 +73,8 @@ undefined Undefined = true
 undefined (Means command) = false
 
 -- A command is asked for by the byte of its upper eight bits, and the ninth is 0.
-unfoldable pub commandFault : ℕ → Bool
-commandFault code = undefined (codeMeaning (2 * code))
+unfoldable pub commandFault : Part → ℕ → Bool
+commandFault part code = undefined (codeMeaning part (2 * code))
 
 -- A command that a code can mean: a rate is one of the eight.
 abbrev pub Proper : Command → Type 0

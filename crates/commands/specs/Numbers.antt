@@ -1,6 +1,10 @@
 -- The numbers that RULES gives the cases of each enum: bytes of "State record and simulator", codes of "Commands".
 -- Assumes nothing.
-use Prim.Native.Nat.{ℕ, _+_}
+use Prim.Native.Nat.{ℕ, _+_, _-_}
+use mathlib.Core.Bool.{cond}
+use lib.Dec.{ltb}
+use Rattle.ground.specs.declared.Part.{Part}
+use Rattle.ground.specs.declared.Part.the-variants.{Ht, Gn}
 use Rattle.commands.specs.declared.Bias.{Bias}
 use Rattle.commands.specs.declared.Bias.the-variants.{Half, Third}
 use Rattle.commands.specs.declared.Commons.{Commons}
@@ -19,7 +23,7 @@ commonsNumber Two = 2
 commonsNumber Three = 3
 commonsNumber Four = 4
 
--- A command's number is its code: of the upper bytes that mean it, the lowest.
+-- A command's number is its code in the HT: of the upper bytes that mean it there, the lowest.
 abbrev pub commandNumber : Command → ℕ
 commandNumber SysDis = 0x00
 commandNumber SysEn = 0x01
@@ -54,3 +58,12 @@ commandNumber Normal = 0xE3
 abbrev pub decodedNumber : Decoded → ℕ
 decodedNumber Undefined = 0xFF
 decodedNumber (Means command) = commandNumber command
+
+-- The codes of 0A and 0B, nine bits each, change places with those of 0C and 0D.
+unfoldable pub swapped : ℕ → ℕ
+swapped code = cond (ltb code 0x14) code (cond (ltb code 0x18) (code + 4) (cond (ltb code 0x1C) (code - 4) code))
+
+-- Where the table, which has the HT's codes in their order, has a code of a part.
+unfoldable pub entryOf : Part → ℕ → ℕ
+entryOf Ht code = code
+entryOf Gn code = swapped code

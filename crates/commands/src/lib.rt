@@ -1,10 +1,12 @@
-// What a command code means.
+// What a command code means, in each part.
 ghost use mathlib.Core.Path.{_≡_};
 ghost use Rattle.ground.specs.Places.{lowest};
 ghost use Rattle.commands.specs.Commands.{codeMeaning, commandFault};
-ghost use Rattle.commands.specs.Numbers.{biasNumber, commonsNumber, decodedNumber};
+ghost use Rattle.commands.specs.Numbers.{biasNumber, commonsNumber, decodedNumber, swapped, entryOf};
 
 mod table; // table.rt: the 512 entries
+
+use ground::Part;
 
 // The LCD's bias.
 pub enum Bias {
@@ -77,22 +79,48 @@ pub enum Decoded {
     Means(Command),
 }
 
+// The codes of 0A and 0B in the places of 0C and 0D, and the other way round.
+fn swapped(code: usize) -> usize
+    ensures { λ r. ⌜ r ≡ swapped code ⌝ }
+{
+    if code < 0x14 {
+        return code;
+    }
+    if code < 0x18 {
+        return code + 4;
+    }
+    if code < 0x1c {
+        return code - 4;
+    }
+    code
+}
+
+// Where the table has a code of a part.
+fn entry_of(part: Part, code: usize) -> usize
+    ensures { λ r. ⌜ r ≡ entryOf part code ⌝ }
+{
+    match part {
+        Part::Ht => code,
+        Part::Gn => swapped(code),
+    }
+}
+
 // The number that the table has for a code: that of no command where it is above 511.
-fn number_of(code: u16) -> u8
-    ensures { λ r. ⌜ r ≡ decodedNumber (codeMeaning code) ⌝ }
+fn number_of(part: Part, code: u16) -> u8
+    ensures { λ r. ⌜ r ≡ decodedNumber (codeMeaning part code) ⌝ }
 {
     if 511 < code {
         return 0xff;
     }
-    let at = code as usize;
+    let at = entry_of(part, code as usize);
     table::NUMBERS[at]
 }
 
-// The meaning of a nine-bit code. A number above 511 is no code, and undefined.
-pub fn meaning(code: u16) -> Decoded
-    ensures { λ r. ⌜ r ≡ codeMeaning code ⌝ }
+// The meaning of a nine-bit code in a part. A number above 511 is no code, and undefined.
+pub fn meaning(part: Part, code: u16) -> Decoded
+    ensures { λ r. ⌜ r ≡ codeMeaning part code ⌝ }
 {
-    let number = number_of(code);
+    let number = number_of(part, code);
     match number {
         0x00 => Decoded::Means(Command::SysDis),
         0x01 => Decoded::Means(Command::SysEn),
@@ -126,14 +154,14 @@ pub fn meaning(code: u16) -> Decoded
     }
 }
 
-// The lowest place of a byte that is the upper eight bits of no command; the number of bytes where there is none.
-pub fn first_undefined(codes: &[u8]) -> usize
-    ensures { λ r. ⌜ r ≡ lowest commandFault (now (codes .entry)) ⌝ }
+// The lowest place of a byte that is the upper eight bits of no command of a part; the number of bytes where there is none.
+pub fn first_undefined(part: Part, codes: &[u8]) -> usize
+    ensures { λ r. ⌜ r ≡ lowest (commandFault part) (now (codes .entry)) ⌝ }
 {
     let numbers = table::NUMBERS; // once for all the codes: a const array is made anew at each use
     let mut i: usize = 0;
     while i < codes.len() {
-        let at = 2 * (codes[i] as usize);
+        let at = entry_of(part, 2 * (codes[i] as usize));
         if numbers[at] == 0xff {
             return i;
         }

@@ -1,4 +1,4 @@
-// The table of RULES "Commands": for each of the 512 nine-bit codes the number of its meaning, which is the lowest upper
+// The table of RULES "Commands", for the HT: for each of the 512 nine-bit codes the number of its meaning, which is the lowest upper
 // byte that has this meaning, and 0xff where there is none. The comment names the code by its upper byte and its last bit.
 pub const NUMBERS: [u8; 512] = [
     0x00, // 00.0 SYS DIS

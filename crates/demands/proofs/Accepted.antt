@@ -1,14 +1,15 @@
 -- Each call answers by a ladder, and its ladder is the table: row by row, once the stream's length is known. Assumes nothing.
-use mathlib.Core.Path.{_≡_, refl, subst}
-use mathlib.Core.Bool.{Bool, true, false, cond}
+use mathlib.Core.Path.{_≡_, refl, sym, subst}
+use mathlib.Core.Bool.{Bool, true, false, cond, not}
 use mathlib.Core.List.{List, [], _∷_, map}
-use Prim.Native.Nat.{ℕ, _+_, _*_, _/_, _<_}
+use Prim.Native.Nat.{ℕ, zero, suc, _+_, _*_, _/_, _<_}
 use native.Mathlib.Omega.{arith}
-use lib.Dec.{eqb}
+use lib.Dec.{eqb, ltb}
 use lib.ListN.{length}
 use borrow.Author.Tests.{lt-ltb, le-ltb, ne-eqb}
 use Rattle.ground.specs.declared.Outcome.the-variants.{Written, Refused}
 use Rattle.ground.specs.Outcomes.{Rung, ladder, Row, AsTabled}
+use Rattle.ground.specs.Parts.{isPart}
 use Rattle.ground.specs.Refusals.{refusalNumber, refusalPlace}
 use Rattle.ground.proofs.OutcomesLaws.{rowOf, ladder-tabled}
 use Rattle.driver.specs.Refusals.{miscounted}
@@ -43,6 +44,13 @@ tabled {rungs} {size} {table} {bytes} rows same =
     subst (λ t. Tabled rungs size t bytes) rows
     (subst (Tabled rungs size (map rowOf rungs)) same (record { answer = ladder-tabled rungs size; code = told rungs size }))
 
+-- a number from 2 on is no part's
+part-asked : (part : ℕ) → not (isPart part) ≡ ltb 1 part
+part-asked zero = refl
+part-asked (suc zero) = refl
+part-asked (suc (suc part)) =
+    rw (ne-eqb (suc (suc part)) 0 (omega arith), ne-eqb (suc (suc part)) 1 (omega arith), lt-ltb 1 (suc (suc part)) (omega arith))
+
 -- ---- request by request
 
 write : (first : ℕ) (nibbles : List ℕ) (room : ℕ)
@@ -53,17 +61,17 @@ read : (first count room : ℕ)
     → Tabled (readRefusals first count room) (length (readStream first count)) (readTable first count room) (21 + 8 * count)
 read first count room = tabled (rw (read-length first count) refl) (read-length first count)
 
-commands : (codes : List ℕ) (room : ℕ)
-    → Tabled (commandRefusals codes room) (length (commandStream codes)) (commandTable codes room) (9 + 18 * length codes)
-commands codes room = tabled (rw (commands-length codes) refl) (commands-length codes)
+commands : (part : ℕ) (codes : List ℕ) (room : ℕ)
+    → Tabled (commandRefusals part codes room) (length (commandStream codes)) (commandTable part codes room) (9 + 18 * length codes)
+commands part codes room = tabled (rw (commands-length codes, part-asked part) refl) (commands-length codes)
 
 decode : (noted : List ℕ) (room : ℕ)
     → Tabled (decodeRefusals noted room) (length (decoded noted)) (decodeTable noted room) (length noted / 4)
 unfolding miscounted
 decode noted room = tabled (rw (decoded-length noted) refl) (decoded-length noted)
 
-power-on : (memory : List ℕ) (room : ℕ) → Tabled (recordRefusals memory room) 64 (powerOnTable memory room) 64
-power-on memory room = tabled refl refl
+power-on : (part : ℕ) (memory : List ℕ) (room : ℕ) → Tabled (recordRefusals part memory room) 64 (powerOnTable part memory room) 64
+power-on part memory room = tabled (rw (part-asked part) refl) refl
 
 pub accepted : Accepted
 unfolding writeReturns readReturns commandsReturns decodeReturns powerOnReturns stepReturns advanceReturns pinsReturns writeAnswer readAnswer commandAnswer decodeAnswer powerOnAnswer
@@ -71,14 +79,14 @@ accepted =
     record {
       write = λ first nibbles room. write first nibbles room .answer;
       read = λ first count room. read first count room .answer;
-      commands = λ codes room. commands codes room .answer;
+      commands = λ part codes room. commands part codes room .answer;
       decode = λ noted room. decode noted room .answer;
-      powerOn = λ memory room. power-on memory room .answer;
+      powerOn = λ part memory room. power-on part memory room .answer;
       writeCall = λ first nibbles out. write first nibbles (length out) .code;
       readCall = λ first count out. read first count (length out) .code;
-      commandsCall = λ codes out. commands codes (length out) .code;
+      commandsCall = λ part codes out. commands part codes (length out) .code;
       decodeCall = λ noted out. decode noted (length out) .code;
-      powerOnCall = λ memory bytes. power-on memory (length bytes) .code;
+      powerOnCall = λ part memory bytes. power-on part memory (length bytes) .code;
       step = λ bytes sample. refl;
       advance = λ bytes. refl;
       pins = λ bytes cells. refl;
@@ -98,8 +106,9 @@ which-range =
       readEnd = λ first count room good past.
           accepted .read first count room .refused (_ ∷ _ ∷ []) _ _ refl (none count (omega arith), (le-ltb 31 first good, tt))
           (lt-ltb 32 (first + count) past);
-      commandsMany = λ codes room many.
-          accepted .commands codes room .refused (_ ∷ []) _ _ refl (none (length codes) (omega arith), tt) (lt-ltb 32 (length codes) many);
+      commandsMany = λ part codes room known many.
+          accepted .commands part codes room .refused (_ ∷ _ ∷ []) _ _ refl
+          (le-ltb 1 part known, (none (length codes) (omega arith), tt)) (lt-ltb 32 (length codes) many);
     }
   where
     none : (count : ℕ) → 0 < count → eqb count 0 ≡ false

@@ -9,6 +9,10 @@ use native.Mathlib.Omega.{arith}
 use lib.Dec.{ltb}
 use lib.ListN.{length, take, getD}
 use borrow.Author.Tests.{ltb-false, eqb-false, lt-ltb, le-ltb}
+use Rattle.ground.specs.declared.Part.{Part}
+use Rattle.ground.specs.declared.Part.the-variants.{Ht}
+use Rattle.ground.specs.Parts.{partNumber}
+use Rattle.ground.proofs.PartsLaws.{part-back}
 use Rattle.ground.specs.Places.{lowest}
 use Rattle.ground.specs.Sizes.{addresses}
 use Rattle.ground.specs.Written.{over}
@@ -27,9 +31,9 @@ use Rattle.demands.proofs.Accepted.{accepted}
 use Rattle.demands.proofs.CommandLaws.{Defined}
 
 -- a code above 255 has no meaning
-defined-byte : (code : ℕ) → commandFault code ≡ false → code < 256
+defined-byte : (part : Part) (code : ℕ) → commandFault part code ≡ false → code < 256
 unfolding commandFault codeMeaning
-defined-byte code e = by (decLt code 256)
+defined-byte part code e = by (decLt code 256)
   where
     by : Dec (code < 256) → code < 256
     by (yes h) = h
@@ -38,10 +42,11 @@ defined-byte code e = by (decLt code 256)
         let z : true ≡ false = simp past at e in
         let one : _≡_ {A = ℕ} 0 1 = cc in let no : ⊥ = omega arith in absurd no
 
-defined-from : (codes : List ℕ) → ((k : ℕ) → k < length codes → commandFault (getD codes k 0) ≡ false) → Defined codes
-defined-from [] f = tt
-defined-from (code ∷ codes) f =
-    let e = f 0 (suc-le-suc zero-le) in ((defined-byte code e, e), defined-from codes (λ k h. f (suc k) (suc-le-suc h)))
+defined-from : (part : Part) (codes : List ℕ) → ((k : ℕ) → k < length codes → commandFault part (getD codes k 0) ≡ false)
+    → Defined part codes
+defined-from part [] f = tt
+defined-from part (code ∷ codes) f =
+    let e = f 0 (suc-le-suc zero-le) in ((defined-byte part code e, e), defined-from part codes (λ k h. f (suc k) (suc-le-suc h)))
 
 -- ---- a write
 
@@ -88,11 +93,12 @@ accepted-read first count e =
 
 -- ---- commands
 
-pub accepted-commands : (codes : List ℕ) → AcceptsCommands codes → Defined codes
-accepted-commands codes e =
-    let none = accepted .commands codes (length (commandStream codes)) .acceptedOnly _ e in
-    let clean = ltb-false (lowest commandFault codes) (length codes) (none .1 .1 .0) in
-    defined-from codes (λ k h. lowest-below commandFault codes k (commandFault (getD codes k 0)) refl (omega arith))
+pub accepted-commands : (part : Part) (codes : List ℕ) → AcceptsCommands (partNumber part) codes → Defined part codes
+accepted-commands part codes e =
+    let none = accepted .commands (partNumber part) codes (length (commandStream codes)) .acceptedOnly _ e in
+    let same = part-back Ht part .1 in
+    let clean = ltb-false (lowest (commandFault part) codes) (length codes) (rw same at (none .1 .1 .1 .0)) in
+    defined-from part codes (λ k h. lowest-below (commandFault part) codes k (commandFault part (getD codes k 0)) refl (omega arith))
 
 -- ---- what stands in the buffer
 

@@ -5,6 +5,7 @@ use mathlib.Core.Bool.{Bool, true, false, true≢false}
 use mathlib.Core.List.{List, [], _∷_, _++_}
 use Prim.Native.Nat.{ℕ, _+_, _*_, _/_, _%_, _<_}
 use native.Mathlib.Omega.{arith}
+use Rattle.ground.specs.declared.Part.{Part}
 use Rattle.commands.specs.declared.Decoded.{Decoded}
 use Rattle.commands.specs.declared.Decoded.the-variants.{Undefined, Means}
 use Rattle.commands.specs.Commands.{codeMeaning, undefined}
@@ -25,10 +26,10 @@ use Rattle.demands.proofs.Ports.{runP, run-append, run-headed, trace, t
 use Rattle.demands.proofs.SentLaws.{codeSent, code-sent}
 use Rattle.demands.proofs.StreamLevels.{up, bitsL, headL, commandsL}
 
--- every code has a meaning
-abbrev pub Defined : List ℕ → Type 0
-Defined [] = Unit {0}
-Defined (code ∷ codes) = ((code < 256) × (commandFault code ≡ false)) × Defined codes
+-- every code has a meaning in the part
+abbrev pub Defined : Part → List ℕ → Type 0
+Defined part [] = Unit {0}
+Defined part (code ∷ codes) = ((code < 256) × (commandFault part code ≡ false)) × Defined part codes
 
 -- ---- the answer to a ninth bit
 
@@ -36,9 +37,9 @@ defined-obeys : (decoded : Decoded) (code : ℕ) → undefined decoded ≡ false
 defined-obeys Undefined code e = absurd (true≢false e)
 defined-obeys (Means command) code e = refl
 
-code-obeyed : (code : ℕ) → code < 256 → commandFault code ≡ false → told (Code (codeSent code / 2 % 256)) ≡ Obeyed code
+code-obeyed : (part : Part) (code : ℕ) → code < 256 → commandFault part code ≡ false → told part (Code (codeSent code / 2 % 256)) ≡ Obeyed code
 unfolding commandFault
-code-obeyed code h e = rw (code-sent code h, half) (defined-obeys (codeMeaning (2 * code)) code e)
+code-obeyed part code h e = rw (code-sent code h, half) (defined-obeys (codeMeaning part (2 * code)) code e)
   where
     half : 2 * code / 2 % 256 ≡ code
     half = omega arith
@@ -53,16 +54,16 @@ command-step : (b : Bool) (m : List ℕ) (code : ℕ) → runP (commanding b m) 
 unfolding moved framedBy frame taken commandTaken memoryAfter
 command-step b m code = refl
 
-command-trace : (b : Bool) (m : List ℕ) (code : ℕ)
-    → trace (commanding b m) (bitsL (commandBits code)) ≡ bitAnswers 8 ++ Nothing ∷ told (Code (codeSent code / 2 % 256)) ∷ []
+command-trace : (part : Part) (b : Bool) (m : List ℕ) (code : ℕ)
+    → trace part (commanding b m) (bitsL (commandBits code)) ≡ bitAnswers 8 ++ Nothing ∷ told part (Code (codeSent code / 2 % 256)) ∷ []
 unfolding moved framedBy frame taken commandTaken memoryAfter
-command-trace b m code = refl
+command-trace part b m code = refl
 
-module _ (code : ℕ) (h : code < 256) (e : commandFault code ≡ false) where
+module _ (part : Part) (code : ℕ) (h : code < 256) (e : commandFault part code ≡ false) where
   command-answers : (b : Bool) (m : List ℕ)
-      → trace (commanding b m) (bitsL (commandBits code)) ≡ bitAnswers 8 ++ Nothing ∷ Obeyed code ∷ []
+      → trace part (commanding b m) (bitsL (commandBits code)) ≡ bitAnswers 8 ++ Nothing ∷ Obeyed code ∷ []
   command-answers b m =
-      command-trace b m code ∙ ap (λ (a : Answer). bitAnswers 8 ++ Nothing ∷ a ∷ []) (code-obeyed code h e)
+      command-trace part b m code ∙ ap (λ (a : Answer). bitAnswers 8 ++ Nothing ∷ a ∷ []) (code-obeyed part code h e)
 
 -- ---- all of them
 
@@ -70,29 +71,30 @@ abbrev pub commandsAnswers : List ℕ → List Answer
 commandsAnswers [] = Closed ∷ []
 commandsAnswers (code ∷ codes) = bitAnswers 8 ++ Nothing ∷ Obeyed code ∷ commandsAnswers codes
 
-closes : (b : Bool) (m : List ℕ) → trace (commanding b m) (high ∷ []) ≡ Closed ∷ []
+closes : (part : Part) (b : Bool) (m : List ℕ) → trace part (commanding b m) (high ∷ []) ≡ Closed ∷ []
 unfolding moved framedBy frame closed
-closes b m = refl
+closes part b m = refl
 
 closes-idle : (b : Bool) (m : List ℕ) → runP (commanding b m) (high ∷ []) ≡ idle m high
 unfolding moved framedBy frame closed memoryAfter
 closes-idle b m = refl
 
-body-answers : (codes : List ℕ) (b : Bool) (m : List ℕ) → Defined codes → trace (commanding b m) (commandsL codes) ≡ commandsAnswers codes
-body-answers [] b m v = closes b m
-body-answers (code ∷ codes) b m v =
-    trace-append (commanding b m) (bitsL (commandBits code)) (commandsL codes)
-    ∙ ap (λ (done : List Answer). done ++ trace (runP (commanding b m) (bitsL (commandBits code))) (commandsL codes))
-    (command-answers code (v .0 .0) (v .0 .1) b m)
+body-answers : (part : Part) (codes : List ℕ) (b : Bool) (m : List ℕ) → Defined part codes
+    → trace part (commanding b m) (commandsL codes) ≡ commandsAnswers codes
+body-answers part [] b m v = closes part b m
+body-answers part (code ∷ codes) b m v =
+    trace-append part (commanding b m) (bitsL (commandBits code)) (commandsL codes)
+    ∙ ap (λ (done : List Answer). done ++ trace part (runP (commanding b m) (bitsL (commandBits code))) (commandsL codes))
+    (command-answers part code (v .0 .0) (v .0 .1) b m)
     ∙ ap (λ (rest : List Answer). bitAnswers 8 ++ Nothing ∷ Obeyed code ∷ rest)
-    (ap (λ (q : Port). trace q (commandsL codes)) (command-step b m code) ∙ body-answers codes false m (v .1))
+    (ap (λ (q : Port). trace part q (commandsL codes)) (command-step b m code) ∙ body-answers part codes false m (v .1))
 
-body-leaves : (codes : List ℕ) (b : Bool) (m : List ℕ) → Defined codes → runP (commanding b m) (commandsL codes) ≡ idle m high
-body-leaves [] b m v = closes-idle b m
-body-leaves (code ∷ codes) b m v =
+body-leaves : (codes : List ℕ) (b : Bool) (m : List ℕ) → runP (commanding b m) (commandsL codes) ≡ idle m high
+body-leaves [] b m = closes-idle b m
+body-leaves (code ∷ codes) b m =
     run-append (commanding b m) (bitsL (commandBits code)) (commandsL codes)
     ∙ ap (λ (q : Port). runP q (commandsL codes)) (command-step b m code)
-    ∙ body-leaves codes false m (v .1)
+    ∙ body-leaves codes false m
 
 abbrev restL : List Levels
 restL = up true ∷ bitsL commandId
@@ -101,19 +103,19 @@ head-run : (m : List ℕ) → runP (idle m high) restL ≡ commanding false m
 unfolding moved framedBy frame taken identTaken identified memoryAfter
 head-run m = refl
 
-head-answers : (m : List ℕ) → trace (idle m high) restL ≡ Opened ∷ bitAnswers 3
+head-answers : (part : Part) (m : List ℕ) → trace part (idle m high) restL ≡ Opened ∷ bitAnswers 3
 unfolding moved framedBy frame taken identTaken identified memoryAfter
-head-answers m = refl
+head-answers part m = refl
 
 abbrev pub commandL : List ℕ → List Levels
 commandL codes = headL commandId ++ commandsL codes
 
-pub command-leaves : (p : Port) (codes : List ℕ) → Defined codes → runP p (commandL codes) ≡ idle (p .memory) high
-command-leaves p codes v =
-    run-headed p restL (commandsL codes) (commanding false (p .memory)) (head-run (p .memory)) ∙ body-leaves codes false (p .memory) v
+pub command-leaves : (p : Port) (codes : List ℕ) → runP p (commandL codes) ≡ idle (p .memory) high
+command-leaves p codes =
+    run-headed p restL (commandsL codes) (commanding false (p .memory)) (head-run (p .memory)) ∙ body-leaves codes false (p .memory)
 
-pub stream-answers : (p : Port) (codes : List ℕ) → Defined codes
-    → trace p (commandL codes) ≡ firstAnswer p ∷ Opened ∷ bitAnswers 3 ++ commandsAnswers codes
-stream-answers p codes v =
-    trace-headed p restL (commandsL codes) (commanding false (p .memory)) (head-run (p .memory)) (Opened ∷ bitAnswers 3) (head-answers (p .memory))
-    ∙ ap (λ (rest : List Answer). firstAnswer p ∷ Opened ∷ bitAnswers 3 ++ rest) (body-answers codes false (p .memory) v)
+pub stream-answers : (part : Part) (p : Port) (codes : List ℕ) → Defined part codes
+    → trace part p (commandL codes) ≡ firstAnswer p ∷ Opened ∷ bitAnswers 3 ++ commandsAnswers codes
+stream-answers part p codes v =
+    trace-headed p restL (commandsL codes) (commanding false (p .memory)) (head-run (p .memory)) part (Opened ∷ bitAnswers 3) (head-answers part (p .memory))
+    ∙ ap (λ (rest : List Answer). firstAnswer p ∷ Opened ∷ bitAnswers 3 ++ rest) (body-answers part codes false (p .memory) v)

@@ -6,6 +6,7 @@ use mathlib.Core.List.{List, [], _∷_, _++_}
 use Prim.Native.Nat.{ℕ, zero, suc, _+_, _-_, _/_, _%_, _≤_, _<_}
 use native.Mathlib.Decide.{decLt}
 use native.Mathlib.Omega.{arith}
+use Rattle.ground.specs.declared.Part.{Part}
 use lib.ListN.{length, getD, set, take}
 use lib.Seq.{sets, take-nil, take-append-add, getD-append-add}
 use borrow.Author.Tests.{le-ltb}
@@ -54,33 +55,33 @@ nibble-leaves b m a n inside small =
     ap₂ (λ (at value : ℕ). ready (bitAt 3 n) (set m at value) (next (reached a))) (reached-small a inside) (nibble-sent n small)
     ∙ ap (ready (bitAt 3 n) (set m a n)) (reached-next a)
 
-nibbles-cut : (ns : List ℕ) (k : ℕ) (b : Bool) (m : List ℕ) (a : ℕ) → a + length ns ≤ addresses → Nibbles ns
+nibbles-cut : (part : Part) (ns : List ℕ) (k : ℕ) (b : Bool) (m : List ℕ) (a : ℕ) → a + length ns ≤ addresses → Nibbles ns
     → (runP (ready b m (reached a)) (take k (nibblesL ns)) ≡ writtenPort m a (reached a) ns (k / 8) (k % 8 / 2) (getD (up b ∷ nibblesL ns) k high))
-    × (trace (ready b m (reached a)) (take k (nibblesL ns)) ≡ take k (nibbleAnswers a ns))
+    × (trace part (ready b m (reached a)) (take k (nibblesL ns)) ≡ take k (nibbleAnswers a ns))
 unfolding moved framedBy frame taken nibbleTaken closed memoryAfter
-nibbles-cut [] zero b m a h v = (refl, refl)
-nibbles-cut [] (suc zero) b m a h v = (refl, refl)
-nibbles-cut [] (suc (suc k)) b m a h v = (rw take-nil, refl)
-nibbles-cut (n ∷ ns) zero b m a h v = (refl, refl)
-nibbles-cut (n ∷ ns) (suc zero) b m a h v = (refl, refl)
-nibbles-cut (n ∷ ns) (suc (suc zero)) b m a h v = (refl, refl)
-nibbles-cut (n ∷ ns) (suc (suc (suc zero))) b m a h v = (refl, refl)
-nibbles-cut (n ∷ ns) (suc (suc (suc (suc zero)))) b m a h v = (refl, refl)
-nibbles-cut (n ∷ ns) (suc (suc (suc (suc (suc zero))))) b m a h v = (refl, refl)
-nibbles-cut (n ∷ ns) (suc (suc (suc (suc (suc (suc zero)))))) b m a h v = (refl, refl)
-nibbles-cut (n ∷ ns) (suc (suc (suc (suc (suc (suc (suc zero))))))) b m a h v = (refl, refl)
-nibbles-cut (n ∷ ns) (suc (suc (suc (suc (suc (suc (suc (suc k)))))))) b m a h v =
+nibbles-cut part [] zero b m a h v = (refl, refl)
+nibbles-cut part [] (suc zero) b m a h v = (refl, refl)
+nibbles-cut part [] (suc (suc k)) b m a h v = (rw take-nil, refl)
+nibbles-cut part (n ∷ ns) zero b m a h v = (refl, refl)
+nibbles-cut part (n ∷ ns) (suc zero) b m a h v = (refl, refl)
+nibbles-cut part (n ∷ ns) (suc (suc zero)) b m a h v = (refl, refl)
+nibbles-cut part (n ∷ ns) (suc (suc (suc zero))) b m a h v = (refl, refl)
+nibbles-cut part (n ∷ ns) (suc (suc (suc (suc zero)))) b m a h v = (refl, refl)
+nibbles-cut part (n ∷ ns) (suc (suc (suc (suc (suc zero))))) b m a h v = (refl, refl)
+nibbles-cut part (n ∷ ns) (suc (suc (suc (suc (suc (suc zero)))))) b m a h v = (refl, refl)
+nibbles-cut part (n ∷ ns) (suc (suc (suc (suc (suc (suc (suc zero))))))) b m a h v = (refl, refl)
+nibbles-cut part (n ∷ ns) (suc (suc (suc (suc (suc (suc (suc (suc k)))))))) b m a h v =
     let left = nibble-leaves b m a n (omega arith) (v .0) in
     let rest = take k (nibblesL ns) in
-    let others = nibbles-cut ns k (bitAt 3 n) (set m a n) (suc a) (omega arith) (v .1) in (
+    let others = nibbles-cut part ns k (bitAt 3 n) (set m a n) (suc a) (omega arith) (v .1) in (
       ap (λ (q : Port). runP q rest) left
           ∙ others .0
           ∙ ap (λ (at : ℕ). writtenPort (set m a n) (suc a) at ns (k / 8) (k % 8 / 2) now) (sym (reached-next a))
           ∙ ap₂ (λ (whole bits : ℕ). writtenPort m a (reached a) (n ∷ ns) whole bits now) more-whole same-bits,
-      ap₂ (λ (at value : ℕ). bitAnswers 3 ++ Nothing ∷ Stored at value ∷ trace (runP (ready b m (reached a)) (bitsL (nibbleBits n))) rest)
+      ap₂ (λ (at value : ℕ). bitAnswers 3 ++ Nothing ∷ Stored at value ∷ trace part (runP (ready b m (reached a)) (bitsL (nibbleBits n))) rest)
           (reached-small a (omega arith)) (nibble-sent n (v .0))
           ∙ ap (λ (answers : List Answer). bitAnswers 3 ++ Nothing ∷ Stored a n ∷ answers)
-          (ap (λ (q : Port). trace q rest) left ∙ others .1 ∙ ap (λ (at : ℕ). take k (nibbleAnswers at ns)) one),
+          (ap (λ (q : Port). trace part q rest) left ∙ others .1 ∙ ap (λ (at : ℕ). take k (nibbleAnswers at ns)) one),
     )
   where
     now : Levels
@@ -125,11 +126,11 @@ pub head-leaves : (m : List ℕ) (first : ℕ) → first < round → runP (idle 
 unfolding moved framedBy frame taken identTaken identified writeToTaken memoryAfter
 head-leaves m first h = ap (ready (bitAt 0 first) m) (address-sent first h)
 
-pub head-answers : (m : List ℕ) (first : ℕ) → trace (idle m high) (restL first) ≡ Opened ∷ bitAnswers 9
+pub head-answers : (part : Part) (m : List ℕ) (first : ℕ) → trace part (idle m high) (restL first) ≡ Opened ∷ bitAnswers 9
 unfolding moved framedBy frame taken identTaken identified writeToTaken memoryAfter
-head-answers m first = refl
+head-answers part m first = refl
 
-module _ (m : List ℕ) (first : ℕ) (ns : List ℕ) (fit : Fit first ns) where
+module _ (part : Part) (m : List ℕ) (first : ℕ) (ns : List ℕ) (fit : Fit first ns) where
   -- the first address is one of the frame's
   near : first < round
   near = omega (arith, fit .some, fit .inside)
@@ -144,20 +145,20 @@ module _ (m : List ℕ) (first : ℕ) (ns : List ℕ) (fit : Fit first ns) where
   dueAnswers = Opened ∷ bitAnswers 9 ++ nibbleAnswers first ns
 
   abbrev Cut : ℕ → Type 0
-  Cut k = (runP (idle m high) (take k tail) ≡ standsAt k) × (trace (idle m high) (take k tail) ≡ take k dueAnswers)
+  Cut k = (runP (idle m high) (take k tail) ≡ standsAt k) × (trace part (idle m high) (take k tail) ≡ take k dueAnswers)
 
   head-stands : values (λ k. runP (idle m high) (take k tail)) 0 19 ≡ values standsAt 0 19
   unfolding moved framedBy frame taken identTaken identified writeToTaken memoryAfter
   head-stands = refl
 
-  head-told : values (λ k. trace (idle m high) (take k tail)) 0 19 ≡ values (λ k. take k dueAnswers) 0 19
+  head-told : values (λ k. trace part (idle m high) (take k tail)) 0 19 ≡ values (λ k. take k dueAnswers) 0 19
   unfolding moved framedBy frame taken identTaken identified writeToTaken memoryAfter
   head-told = refl
 
   head-cut : (k : ℕ) → k < 19 → Cut k
   head-cut k h = (
     agree (λ k. runP (idle m high) (take k tail)) standsAt 19 head-stands k h,
-    agree (λ k. trace (idle m high) (take k tail)) (λ k. take k dueAnswers) 19 head-told k h,
+    agree (λ k. trace part (idle m high) (take k tail)) (λ k. take k dueAnswers) 19 head-told k h,
   )
 
   -- twenty samples are nine bits, and then eight are four
@@ -186,15 +187,15 @@ module _ (m : List ℕ) (first : ℕ) (ns : List ℕ) (fit : Fit first ns) where
   nibbles-past : (j : ℕ) → Cut (19 + j)
   nibbles-past j =
       let cut = take-append-add (restL first) (nibblesL ns) j in
-      let body = nibbles-cut ns j (bitAt 0 first) m first (fit .inside) (fit .nibbles) in (
+      let body = nibbles-cut part ns j (bitAt 0 first) m first (fit .inside) (fit .nibbles) in (
         ap (runP (idle m high)) cut
             ∙ run-append (idle m high) (restL first) (take j (nibblesL ns))
             ∙ ap (λ (q : Port). runP q (take j (nibblesL ns))) (head-leaves m first near)
             ∙ body .0
             ∙ nibbles-stand j,
-        ap (trace (idle m high)) cut
-            ∙ trace-append (idle m high) (restL first) (take j (nibblesL ns))
-            ∙ ap₂ (λ (done : List Answer) (q : Port). done ++ trace q (take j (nibblesL ns))) (head-answers m first) (head-leaves m first near)
+        ap (trace part (idle m high)) cut
+            ∙ trace-append part (idle m high) (restL first) (take j (nibblesL ns))
+            ∙ ap₂ (λ (done : List Answer) (q : Port). done ++ trace part q (take j (nibblesL ns))) (head-answers part m first) (head-leaves m first near)
             ∙ ap (λ (rest : List Answer). Opened ∷ bitAnswers 9 ++ rest) (body .1)
             ∙ sym (take-append-add (Opened ∷ bitAnswers 9) (nibbleAnswers first ns) j),
       )

@@ -139,8 +139,8 @@ module _ (c : Chip) (first count : ℕ) (es : List Event) (valid : Valid c) (ok 
   pub read-answered : answers c es
       ≡ firstAnswer (c .port) ∷ Opened ∷ bitAnswers 9 ++ readAnswers first (take count (drop first (c .port .memory)))
   read-answered =
-      after-answers c es small ∙ ap (trace (c .port)) (as-levels ∙ ap (readL first) (sym size))
-      ∙ read-answers (c .port) first part rest fit parts
+      after-answers c es small ∙ ap (trace (c .settings .part) (c .port)) (as-levels ∙ ap (readL first) (sym size))
+      ∙ read-answers (c .port) first part rest fit parts (c .settings .part)
 
   pub read-left : after c es .port ≡ idle (c .port .memory) high
   read-left = after-port c es small ∙ ap (runP (c .port)) as-levels ∙ read-leaves (c .port) first count
@@ -158,7 +158,7 @@ module _ (c : Chip) (first count : ℕ) (es : List Event) (valid : Valid c) (ok 
 
 -- ---- commands
 
-module _ (c : Chip) (codes : List ℕ) (es : List Event) (v : Defined codes) (e : samples es ≡ commandStream codes) where
+module _ (c : Chip) (codes : List ℕ) (es : List Event) (v : Defined (c .settings .part) codes) (e : samples es ≡ commandStream codes) where
   few : Sixteen (samples es)
   few = subst Sixteen (sym e) (command-sixteen codes)
 
@@ -166,10 +166,11 @@ module _ (c : Chip) (codes : List ℕ) (es : List Event) (v : Defined codes) (e 
   sent = ap (map levels) e ∙ command-levels codes
 
   pub command-left : after c es .port ≡ idle (c .port .memory) high
-  command-left = after-port c es few ∙ ap (runP (c .port)) sent ∙ command-leaves (c .port) codes v
+  command-left = after-port c es few ∙ ap (runP (c .port)) sent ∙ command-leaves (c .port) codes
 
   pub command-answered : answers c es ≡ firstAnswer (c .port) ∷ Opened ∷ bitAnswers 3 ++ commandsAnswers codes
-  command-answered = after-answers c es few ∙ ap (trace (c .port)) sent ∙ stream-answers (c .port) codes v
+  command-answered =
+      after-answers c es few ∙ ap (trace (c .settings .part) (c .port)) sent ∙ stream-answers (c .settings .part) (c .port) codes v
 
   due : obeys 1 (answers c es) ≡ dueCommands 26 codes
   due =
@@ -194,5 +195,5 @@ demand2 =
       accepted = accepted;
       writes = writes;
       reads = λ c first count es valid accepts e. reads c first count es valid (accepted-read first count accepts) e;
-      commands = λ c codes es valid accepts e. commands c codes es (accepted-commands codes accepts) e;
+      commands = λ c codes es valid accepts e. commands c codes es (accepted-commands (c .settings .part) codes accepts) e;
     }

@@ -8,6 +8,7 @@ pub mod Demand2
 pub mod Demand3
 pub mod EventsLaws
 pub mod NotesLaws
+pub mod PartLaws
 pub mod Ports
 pub mod ReadLaws
 pub mod RecordLaws

@@ -5,6 +5,8 @@ use mathlib.Core.Bool.{Bool, true, false, cond, not, _&&_}
 use mathlib.Core.List.{List, [], _∷_, _++_, map}
 use Prim.Native.Nat.{ℕ, zero, suc, _+_, _≤_, _<_}
 use native.Mathlib.Omega.{arith}
+use Rattle.ground.specs.declared.Part.{Part}
+use Rattle.ground.specs.declared.Part.the-variants.{Ht}
 use lib.Dec.{eqb}
 use lib.ListN.{length, getD, drop}
 use lib.Seq.{getD-drop, drop-drop}
@@ -75,9 +77,9 @@ reached-by : (m : List ℕ) (first : ℕ)
 unfolding moved framedBy frame taken identTaken identified readToTaken memoryAfter
 reached-by m first = refl
 
-pub head-trace : (m : List ℕ) (first : ℕ) → trace (idle m high) (restL first) ≡ Opened ∷ bitAnswers 9
+pub head-trace : (part : Part) (m : List ℕ) (first : ℕ) → trace part (idle m high) (restL first) ≡ Opened ∷ bitAnswers 9
 unfolding moved framedBy frame taken identTaken identified readToTaken memoryAfter
-head-trace m first = refl
+head-trace part m first = refl
 
 pub head-reads : (m : List ℕ) (first : ℕ) → first < round
     → runP (idle m high) (restL first) ≡ offering (bitAt 0 first) Released m (reached first)
@@ -117,26 +119,26 @@ module _ (b : Bool) (line : Line) (m : List ℕ) (a n : ℕ) where
   unfolding moved framedBy frame offered readOffered memoryAfter
   nibble-notes = refl
 
-  nibble-offers : trace (offering b line m a) (readsL (suc n))
-      ≡ nibbleOffers a (getD m a 0) ++ trace (offering true (driven m a) m (next a)) (readsL n)
+  nibble-offers : (part : Part) → trace part (offering b line m a) (readsL (suc n))
+      ≡ nibbleOffers a (getD m a 0) ++ trace part (offering true (driven m a) m (next a)) (readsL n)
   unfolding moved framedBy frame offered readOffered memoryAfter
-  nibble-offers = refl
+  nibble-offers part = refl
 
 -- the memory from a on begins with vs
-reads-body : (vs rest : List ℕ) (b : Bool) (line : Line) (m : List ℕ) (a : ℕ) → a + length vs ≤ addresses → drop a m ≡ vs ++ rest
+reads-body : (part : Part) (vs rest : List ℕ) (b : Bool) (line : Line) (m : List ℕ) (a : ℕ) → a + length vs ≤ addresses → drop a m ≡ vs ++ rest
     → (notesL (offering b line m (reached a)) (readsL (length vs)) ≡ bitsOf vs)
-    × (trace (offering b line m (reached a)) (readsL (length vs)) ≡ readAnswers a vs)
+    × (trace part (offering b line m (reached a)) (readsL (length vs)) ≡ readAnswers a vs)
 unfolding moved framedBy frame closed
-reads-body [] rest b line m a h e = (refl, refl)
-reads-body (n ∷ vs) rest b line m a h e =
-    let others = reads-body vs rest true (driven m (reached a)) m (suc a) (omega arith) there in (
+reads-body part [] rest b line m a h e = (refl, refl)
+reads-body part (n ∷ vs) rest b line m a h e =
+    let others = reads-body part vs rest true (driven m (reached a)) m (suc a) (omega arith) there in (
       nibble-notes b line m (reached a) (length vs)
           ∙ ap₂ (λ (x : ℕ) (noted : List ℕ). bitsOf (x ∷ []) ++ noted) at
           (ap (λ (x : ℕ). notesL (offering true (driven m (reached a)) m x) (readsL (length vs))) (reached-next a) ∙ others .0),
-      nibble-offers b line m (reached a) (length vs)
-          ∙ ap₂ (λ (x y : ℕ). nibbleOffers x y ++ trace (offering true (driven m (reached a)) m (next (reached a))) (readsL (length vs))) near at
+      nibble-offers b line m (reached a) (length vs) part
+          ∙ ap₂ (λ (x y : ℕ). nibbleOffers x y ++ trace part (offering true (driven m (reached a)) m (next (reached a))) (readsL (length vs))) near at
           ∙ ap (λ (answers : List Answer). nibbleOffers a n ++ answers)
-          (ap (λ (x : ℕ). trace (offering true (driven m (reached a)) m x) (readsL (length vs))) (reached-next a)
+          (ap (λ (x : ℕ). trace part (offering true (driven m (reached a)) m x) (readsL (length vs))) (reached-next a)
           ∙ others .1 ∙ ap (λ (x : ℕ). readAnswers x vs) one),
     )
   where
@@ -178,13 +180,13 @@ module _ (p : Port) (first : ℕ) (vs rest : List ℕ) (fit : Fit first vs) (e :
       notes-opened p (restL first ++ readsL (length vs))
       ∙ head-notes (p .memory) first (readsL (length vs))
       ∙ ap (λ (q : Port). notesL q (readsL (length vs))) reached-body
-      ∙ reads-body vs rest (bitAt 0 first) Released (p .memory) first (fit .inside) e .0
+      ∙ reads-body Ht vs rest (bitAt 0 first) Released (p .memory) first (fit .inside) e .0
 
-  pub read-answers : trace p (readL first (length vs)) ≡ firstAnswer p ∷ Opened ∷ bitAnswers 9 ++ readAnswers first vs
-  read-answers =
-      trace-headed p (restL first) (readsL (length vs)) body reached-body (Opened ∷ bitAnswers 9) (head-trace (p .memory) first)
+  pub read-answers : (part : Part) → trace part p (readL first (length vs)) ≡ firstAnswer p ∷ Opened ∷ bitAnswers 9 ++ readAnswers first vs
+  read-answers part =
+      trace-headed p (restL first) (readsL (length vs)) body reached-body part (Opened ∷ bitAnswers 9) (head-trace part (p .memory) first)
       ∙ ap (λ (answers : List Answer). firstAnswer p ∷ Opened ∷ bitAnswers 9 ++ answers)
-      (reads-body vs rest (bitAt 0 first) Released (p .memory) first (fit .inside) e .1)
+      (reads-body part vs rest (bitAt 0 first) Released (p .memory) first (fit .inside) e .1)
 
 -- ---- what it leaves
 

@@ -9,6 +9,13 @@ use lib.Dec.{eqb}
 use lib.ListN.{take, drop}
 use Rattle.ground.specs.Bits.{bitAt}
 use Rattle.ground.specs.Sizes.{addresses}
+use Rattle.ground.specs.Written.{byte}
+use Rattle.ground.specs.Parts.{partNumber, parts}
+use Rattle.ground.specs.declared.Part.the-variants.{Ht}
+use Rattle.ground.proofs.CodesLaws.{caseOf-again}
+use Rattle.ground.proofs.PartsLaws.{part-right}
+use native.Mathlib.Omega.{arith}
+use Rattle.settings.proofs.BytesLaws.{settings-has}
 use Rattle.settings.specs.declared.Settings.{Settings}
 use Rattle.ticks.specs.Ticks as ticks
 use Rattle.answers.specs.declared.Answer.{Answer}
@@ -22,7 +29,7 @@ use Rattle.chip.proofs.ValidLaws.{advanced-valid}
 use Rattle.settings.specs.Bytes.{settingsAt, settingsBytes, settingsOf}
 use Rattle.state.specs.Record.{portBytes, recordOf, recordValid, chipOf}
 use Rattle.state.proofs.ChipLaws.{valid-chip}
-use Rattle.state.proofs.TripLaws.{trip}
+use Rattle.state.proofs.TripLaws.{valid-has, trip}
 use Rattle.simulator.specs.Simulator.{answerCode, advanceBytes}
 use Rattle.state.proofs.BytesLaws.{memory-bytes, port-bytes, settings-bytes}
 use Rattle.demands.specs.Events.{Event, after, answers, notes}
@@ -86,6 +93,13 @@ module _ (b : List ℕ) (valid : recordValid b ≡ true) where
   pub settings-said : c .settings ≡ settingsOf b
   unfolding chipOf
   settings-said = refl
+
+  -- byte 58 is the number of the part
+  pub part-byte : partNumber (c .settings .part) ≡ byte b 58
+  unfolding chipOf
+  part-byte =
+      let has = settings-has b (valid-has b valid .long) (valid-has b valid .settings) in
+      caseOf-again partNumber Ht (byte b 58) parts (part-right (byte b 58) (has .within 18 (omega arith)))
 
   opening-told : answerCode (firstAnswer (c .port)) ∷ 1 ∷ [] ≡ openingReturns b
   opening-told =

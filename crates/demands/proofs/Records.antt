@@ -7,9 +7,14 @@ use Prim.Native.Nat.{ℕ}
 use lib.ListN.{length, take, drop}
 use lib.Seq.{paste}
 use Rattle.ground.specs.Sizes.{addresses}
+use Rattle.ground.specs.Written.{byte}
 use Rattle.chip.specs.Valid.{Valid}
 use Rattle.state.specs.Record.{recordOf, recordValid, chipOf}
-use Rattle.state.proofs.ChipLaws.{valid-chip, chip-valid}
+use Rattle.state.proofs.ChipLaws.{valid-chip, chip-again, chip-valid}
+use Rattle.chip.specs.declared.Chip.{Chip}
+use Rattle.ground.specs.Parts.{partNumber}
+use Rattle.demands.specs.Parts.{CallsKeepPart}
+use Rattle.demands.proofs.PartLaws.{part-stays}
 use Rattle.streams.specs.Streams.{writeStream, readStream, commandStream}
 use Rattle.state.proofs.BytesLaws.{memory-bytes}
 use Rattle.demands.specs.Accepted.{AcceptsWrite, AcceptsRead, AcceptsCommands}
@@ -27,7 +32,7 @@ use Rattle.demands.proofs.Demand3.{demand3}
 use Rattle.demands.proofs.EventsLaws.{after-valid}
 use Rattle.demands.proofs.Ports.{Sixteen}
 use Rattle.demands.proofs.ReadLaws.{readAnswers}
-use Rattle.demands.proofs.RecordLaws.{nibbles-told, offers-told, commands-told, memory-said, settings-said, leaves, notes-said, memory-left, settings-left, ticks-left, port-left, told}
+use Rattle.demands.proofs.RecordLaws.{nibbles-told, offers-told, commands-told, memory-said, settings-said, part-byte, leaves, notes-said, memory-left, settings-left, ticks-left, port-left, told}
 use Rattle.demands.proofs.StoppedLaws.{write-whole}
 use Rattle.demands.proofs.StreamLevels.{write-sixteen, read-sixteen, command-sixteen}
 
@@ -37,6 +42,14 @@ pub calls-keep-valid : CallsKeepValid
 calls-keep-valid b calls valid =
     ap recordValid (leaves b valid calls)
     ∙ chip-valid (after (chipOf b) (eventsOf calls)) (after-valid (chipOf b) (eventsOf calls) (valid-chip b valid))
+
+pub calls-keep-part : CallsKeepPart
+calls-keep-part b calls valid =
+    sym (part-byte (afterCalls b calls) (calls-keep-valid b calls valid))
+    ∙ ap (λ (l : List ℕ). partNumber (chipOf l .settings .part)) (leaves b valid calls)
+    ∙ ap (λ (c : Chip). partNumber (c .settings .part))
+    (chip-again (after (chipOf b) (eventsOf calls)) (after-valid (chipOf b) (eventsOf calls) (valid-chip b valid) .port .size))
+    ∙ ap partNumber (part-stays (chipOf b) (eventsOf calls)) ∙ part-byte b valid
 
 -- ---- demand 2
 
@@ -73,11 +86,12 @@ reads b first count calls valid accepts e =
           (subst (λ m. ReadsAs (notes (chipOf b) (eventsOf calls)) (take count (drop first m))) said (done .noted));
     }
 
-commands : (b codes : List ℕ) (calls : List Call) → recordValid b ≡ true → AcceptsCommands codes
+commands : (b codes : List ℕ) (calls : List Call) → recordValid b ≡ true → AcceptsCommands (byte b 58) codes
     → sent calls ≡ commandStream codes → CallsCommand b codes calls
 commands b codes calls valid accepts e =
-    let done : Commands (chipOf b) codes (eventsOf calls) = demand2 .commands (chipOf b) codes (eventsOf calls) (valid-chip b valid) accepts e in
-    let defined = accepted-commands codes accepts in
+    let accepts' = subst (λ part. AcceptsCommands part codes) (sym (part-byte b valid)) accepts in
+    let done : Commands (chipOf b) codes (eventsOf calls) = demand2 .commands (chipOf b) codes (eventsOf calls) (valid-chip b valid) accepts' e in
+    let defined = accepted-commands (chipOf b .settings .part) codes accepts' in
     record {
       port =
           port-left b valid calls _ (command-left (chipOf b) codes (eventsOf calls) defined e)

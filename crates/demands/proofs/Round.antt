@@ -71,22 +71,22 @@ head-left-out p number rest h =
 -- what a whole frame comes to, once its head has led to a port: the port left, the answers, and settings by the ticks
 pub record Framed (c : Chip) (es : List Event) (q : Port) (rest : List ℕ) : Type 0 where
   pub port : after c es .port ≡ runP q (map levels rest)
-  pub told : (number : ℕ) → 4 < number → answersNumbered number (answers c es) ≡ answersNumbered number (trace q (map levels rest))
-  pub settings : Plain (trace q (map levels rest)) → after c es .settings ≡ advanced (ticks es) (c .settings)
+  pub told : (number : ℕ) → 4 < number → answersNumbered number (answers c es) ≡ answersNumbered number (trace (c .settings .part) q (map levels rest))
+  pub settings : Plain (trace (c .settings .part) q (map levels rest)) → after c es .settings ≡ advanced (ticks es) (c .settings)
 
 framed : (c : Chip) (id : List Bool) (first : ℕ) (rest : List ℕ) (es : List Event) (q : Port) → CsLow rest → samples es ≡ headOf id first ++ rest
     → runP (idle (c .port .memory) high) (up true ∷ bitsL (id ++ addressBits first)) ≡ q
-    → trace (idle (c .port .memory) high) (up true ∷ bitsL (id ++ addressBits first)) ≡ Opened ∷ bitAnswers 9
+    → trace (c .settings .part) (idle (c .port .memory) high) (up true ∷ bitsL (id ++ addressBits first)) ≡ Opened ∷ bitAnswers 9
     → Framed c es q rest
 framed c id first rest es q low e ran told =
     let head = up true ∷ bitsL (id ++ addressBits first) in
-    let body = trace q (map levels rest) in
+    let body = trace (c .settings .part) q (map levels rest) in
     let small : Sixteen (samples es) =
     subst Sixteen (sym e) (omega arith, (omega arith, bits-sixteen (id ++ addressBits first) rest (low-sixteen rest low))) in
     let fed : map levels (samples es) ≡ headL (id ++ addressBits first) ++ map levels rest =
     ap (map levels) e ∙ headed (id ++ addressBits first) rest (map levels rest) refl in
     let answered : answers c es ≡ firstAnswer (c .port) ∷ Opened ∷ bitAnswers 9 ++ body =
-    after-answers c es small ∙ ap (trace (c .port)) fed ∙ trace-headed (c .port) head (map levels rest) q ran (Opened ∷ bitAnswers 9) told in
+    after-answers c es small ∙ ap (trace (c .settings .part) (c .port)) fed ∙ trace-headed (c .port) head (map levels rest) q ran (c .settings .part) (Opened ∷ bitAnswers 9) told in
     record {
       port = after-port c es small ∙ ap (runP (c .port)) fed ∙ run-headed (c .port) head (map levels rest) q ran;
       told = λ number h. ap (answersNumbered number) answered ∙ head-left-out (c .port) number body h;
@@ -101,9 +101,9 @@ read-frames c first rest es valid near low e =
     let start = up (bitAt 0 first) in
     let begins : reached first ≡ onFrom first 0 = omega arith in
     let whole =
-    framed c readId first rest es (reading m (valid .port .size) first start 0) low e
-    (read.head-reads m first near ∙ ap (read.offering (bitAt 0 first) Released m) begins) (read.head-trace m first) in
-    let on = reads-on m (valid .port .size) first rest start 0 refl low in
+    framed c readId first rest es (reading (c .settings .part) m (valid .port .size) first start 0) low e
+    (read.head-reads m first near ∙ ap (read.offering (bitAt 0 first) Released m) begins) (read.head-trace (c .settings .part) m first) in
+    let on = reads-on (c .settings .part) m (valid .port .size) first rest start 0 refl low in
     rw (← head-edges (bitAt 0 first) rest)
     (record {
       offered = whole .told 8 (omega arith) ∙ on .offers;
@@ -119,8 +119,8 @@ write-frames c first rest es valid near low e =
     let m = c .port .memory in
     let start = up (bitAt 0 first) in
     let whole =
-    framed c writeId first rest es (writing m start [] first 0 Released) low e (write.head-leaves m first near) (write.head-answers m first) in
-    let on = writes-on rest low m start [] first 0 Released refl (omega arith) in
+    framed c writeId first rest es (writing m start [] first 0 Released) low e (write.head-leaves m first near) (write.head-answers (c .settings .part) m first) in
+    let on = writes-on (c .settings .part) rest low m start [] first 0 Released refl (omega arith) in
     let ns = nibblesOf (bitsIn (edges start rest)) in
     let left : after c es .port .memory ≡ storesIn m first ns = ap (λ (p : Port). p .memory) (whole .port) ∙ on .memory in
     let size : length (after c es .port .memory) ≡ 32 = rw left (stores-size ns m first ∙ valid .port .size) in
@@ -133,7 +133,7 @@ write-frames c first rest es valid near low e =
       offers = λ s small falls.
           let p = after c es .port in
           let stands = subst (λ (q : Port). StandsAt (q .phase) (onFrom first (length ns)) (fallsSince 0 0 (edges start rest) % 4)) (sym (whole .port)) (on .stands) in
-          let next = offer-next p (levels s) (onFrom first (length ns)) (fallsSince 0 0 (edges start rest) % 4) stands size falls in
+          let next = offer-next (after c es .settings .part) p (levels s) (onFrom first (length ns)) (fallsSince 0 0 (edges start rest) % 4) stands size falls in
           (stepped-answer (after c es) s small ∙ next .0, ap (λ (q : Port). q .line) (stepped-moved (after c es) s small) ∙ next .1);
       below = λ h. rw left (stores-below ns m first first (omega arith) (omega (arith, h)));
       settings = whole .settings (on .plain);

@@ -6,6 +6,7 @@ use mathlib.Core.List.{List, [], _∷_, _++_, map}
 use Prim.Native.Nat.{ℕ, zero, suc, _+_, _/_, _%_, _≤_, _<_}
 use native.Mathlib.Nat.{add-zero}
 use native.Mathlib.Omega.{arith}
+use Rattle.ground.specs.declared.Part.{Part}
 use lib.Dec.{eqb, ltb}
 use lib.ListN.{length, getD, set, take, List·getD-eq-default, length-set}
 use lib.Seq.{getD-set-same, getD-set-other, take-set-le}
@@ -58,7 +59,7 @@ standing m size at =
 
 -- ---- a read
 
-module _ (m : List ℕ) (size : length m ≡ 32) (first : ℕ) where
+module _ (part : Part) (m : List ℕ) (size : length m ≡ 32) (first : ℕ) where
   bit-said : (n : ℕ) → bitAt (n % 4) (getD m (onFrom first (n / 4)) 0) ≡ bitDue m first n
   bit-said n = ap (bitAt (n % 4)) (standing m size (onFrom first (n / 4)))
 
@@ -96,13 +97,13 @@ module _ (m : List ℕ) (size : length m ≡ 32) (first : ℕ) where
       record { memory = on .memory; line = on .line; offers = rw other (on .offers); plain = (plain, on .plain) }
 
   abbrev ReadsOn : Port → List ℕ → ℕ → ℕ → Type 0
-  ReadsOn p rest n falls = ReadOn n falls (runP p (map levels rest)) (trace p (map levels rest))
+  ReadsOn p rest n falls = ReadOn n falls (runP p (map levels rest)) (trace part p (map levels rest))
 
   -- the same of a first sample, by what it is to the frame
   abbrev ReadsBy : Levels → ℕ → ℕ → List ℕ → Edge → Type 0
   ReadsBy l n s rest e =
       let q = movedAs (reading l n) (levels s) (frame e (getD m (onFrom first (n / 4)) 0) (phaseDue n) (lineDue m first n)) in
-      ReadOn n (fallsIn (e ∷ edges (levels s) rest)) (runP (q .port) (map levels rest)) (told (q .upshot) ∷ trace (q .port) (map levels rest))
+      ReadOn n (fallsIn (e ∷ edges (levels s) rest)) (runP (q .port) (map levels rest)) (told part (q .upshot) ∷ trace part (q .port) (map levels rest))
 
   -- one that asks for a bit: the frame goes on as after one more
   module _ (l : Levels) (n s : ℕ) (rest : List ℕ) where
@@ -120,9 +121,9 @@ module _ (m : List ℕ) (size : length m ≡ 32) (first : ℕ) where
           memory = ap (λ (p : Port). runP p (map levels rest) .memory) stands ∙ on .memory;
           line = ap (λ (p : Port). runP p (map levels rest) .line) stands ∙ on .line ∙ ap (lineDue m first) count;
           offers =
-              ap₂ (λ (b : Bool) (p : Port). Offered (onFrom first (n / 4)) b ∷ answersNumbered 8 (trace p (map levels rest))) bit stands
+              ap₂ (λ (b : Bool) (p : Port). Offered (onFrom first (n / 4)) b ∷ answersNumbered 8 (trace part p (map levels rest))) bit stands
               ∙ ap (λ (others : List Answer). offerDue m first n ∷ others) (on .offers);
-          plain = (tt, subst (λ (p : Port). Plain (trace p (map levels rest))) (sym stands) (on .plain));
+          plain = (tt, subst (λ (p : Port). Plain (trace part p (map levels rest))) (sym stands) (on .plain));
         }
 
   pub reads-on : (rest : List ℕ) (l : Levels) (n : ℕ) → l .cs ≡ false → CsLow rest → ReadsOn (reading l n) rest n (fallsIn (edges l rest))
@@ -195,24 +196,24 @@ write-more : (m : List ℕ) (at : ℕ) (ns : List ℕ) (since : ℕ) (left : Por
 write-more m at ns since left answers answer other plain on =
     record { memory = on .memory; stores = rw other (on .stores); plain = (plain, on .plain); stands = on .stands }
 
-abbrev WritesOn : List ℕ → ℕ → List ℕ → ℕ → List ℕ → Port → Type 0
-WritesOn m at nibbles since rest p = WriteOn m at nibbles since (runP p (map levels rest)) (trace p (map levels rest))
+abbrev WritesOn : Part → List ℕ → ℕ → List ℕ → ℕ → List ℕ → Port → Type 0
+WritesOn part m at nibbles since rest p = WriteOn m at nibbles since (runP p (map levels rest)) (trace part p (map levels rest))
 
-abbrev WritesFrom : List ℕ → Type 0
-WritesFrom rest =
+abbrev WritesFrom : Part → List ℕ → Type 0
+WritesFrom part rest =
     (m : List ℕ) (l : Levels) (bits : List Bool) (at falls : ℕ) (line : Line) → l .cs ≡ false → length bits ≤ 3
-    → WritesOn m at (nibblesOf (bits ++ bitsIn (edges l rest))) (fallsSince (length bits) falls (edges l rest)) rest (writing m l bits at falls line)
+    → WritesOn part m at (nibblesOf (bits ++ bitsIn (edges l rest))) (fallsSince (length bits) falls (edges l rest)) rest (writing m l bits at falls line)
 
-module _ (m : List ℕ) (l : Levels) (s : ℕ) (rest : List ℕ) (at falls : ℕ) (line : Line) where
+module _ (part : Part) (m : List ℕ) (l : Levels) (s : ℕ) (rest : List ℕ) (at falls : ℕ) (line : Line) where
   -- of a first sample, by what it is to the frame
   abbrev WritesBy : List Bool → Edge → Type 0
   WritesBy bits e =
       let p = writing m l bits at falls line in
       let q = movedAs p (levels s) (frame e (getD m (at % 64) 0) (p .phase) line) in
       WriteOn m at (nibblesOf (bits ++ bitsIn (e ∷ edges (levels s) rest))) (fallsSince (length bits) falls (e ∷ edges (levels s) rest))
-      (runP (q .port) (map levels rest)) (told (q .upshot) ∷ trace (q .port) (map levels rest))
+      (runP (q .port) (map levels rest)) (told part (q .upshot) ∷ trace part (q .port) (map levels rest))
 
-  module _ (on : WritesFrom rest) (now : levels s .cs ≡ false) where
+  module _ (on : WritesFrom part rest) (now : levels s .cs ≡ false) where
     -- a bit completes a nibble where three came before it
     bit-taken : (bits : List Bool) (bit : Bool) → length bits ≤ 3 → WritesBy bits (Takes bit)
     unfolding frame taken nibbleTaken memoryAfter
@@ -230,7 +231,7 @@ module _ (m : List ℕ) (l : Levels) (s : ℕ) (rest : List ℕ) (at falls : ℕ
         let begins : q ≡ writing (set m (at % 64) n) (levels s) [] (at + 1) 0 Released =
         λ i. record { memory = set m (at % 64) (made i); levels = levels s; phase = Writing 0 0 (steps i) 0; line = Released } in
         let further =
-        subst (WritesOn (set m (at % 64) n) (at + 1) ns since rest) (sym begins)
+        subst (WritesOn part (set m (at % 64) n) (at + 1) ns since rest) (sym begins)
         (on (set m (at % 64) n) (levels s) [] (at + 1) 0 Released now (omega arith)) in
         let one : onFrom (at + 1) (length ns) ≡ onFrom at (suc (length ns)) = omega arith in
         record {
@@ -250,7 +251,7 @@ module _ (m : List ℕ) (l : Levels) (s : ℕ) (rest : List ℕ) (at falls : ℕ
         let round : (falls % 4 + 1) % 4 ≡ (falls + 1) % 4 = omega arith in
         let read =
         subst (λ (position : ℕ).
-        WritesOn m at (nibblesOf (bits ++ bitsIn (edges (levels s) rest))) (fallsSince (length bits) (falls + 1) (edges (levels s) rest)) rest
+        WritesOn part m at (nibblesOf (bits ++ bitsIn (edges (levels s) rest))) (fallsSince (length bits) (falls + 1) (edges (levels s) rest)) rest
         (record { memory = m; levels = levels s; phase = Writing (length bits) (withBits 0 bits) (at % 64) position; line = shown })) (sym round)
         (on m (levels s) bits at (falls + 1) shown now h) in (
           write-more m at _ _ _ _ Clash refl tt still,
@@ -258,9 +259,9 @@ module _ (m : List ℕ) (l : Levels) (s : ℕ) (rest : List ℕ) (at falls : ℕ
           write-more m at _ _ _ _ Nothing refl tt still,
         )
 
-pub writes-on : (rest : List ℕ) → CsLow rest → WritesFrom rest
+pub writes-on : (part : Part) (rest : List ℕ) → CsLow rest → WritesFrom part rest
 unfolding moved framedBy
-writes-on [] v m l bits at falls line low few =
+writes-on part [] v m l bits at falls line low few =
     let still : at % 64 ≡ onFrom at 0 = omega arith in
     rw (few-bits bits few)
     (record {
@@ -269,19 +270,19 @@ writes-on [] v m l bits at falls line low few =
       plain = tt;
       stands = record { count = length bits; value = withBits 0 bits; is = ap (λ (x : ℕ). Writing (length bits) (withBits 0 bits) x (falls % 4)) still };
     })
-writes-on (s ∷ ss) v m l bits at falls line low few =
+writes-on part (s ∷ ss) v m l bits at falls line low few =
     let now = low-levels s (v .1) in
-    let on = writes-on ss (v .2) in
-    let stay = bits-stay m l s ss at falls line on now bits few in
-    by-edge (WritesBy m l s ss at falls line bits) (stay .0) (λ bit. bit-taken m l s ss at falls line on now bits bit few) (stay .1) (stay .2)
+    let on = writes-on part ss (v .2) in
+    let stay = bits-stay part m l s ss at falls line on now bits few in
+    by-edge (WritesBy part m l s ss at falls line bits) (stay .0) (λ bit. bit-taken part m l s ss at falls line on now bits bit few) (stay .1) (stay .2)
     l (levels s) low now
 
 -- a fall is then offered the bit at the reading position
-pub offer-next : (p : Port) (now : Levels) (at position : ℕ) → StandsAt (p .phase) at position → length (p .memory) ≡ 32 → edge (p .levels) now ≡ Offers
+pub offer-next : (part : Part) (p : Port) (now : Levels) (at position : ℕ) → StandsAt (p .phase) at position → length (p .memory) ≡ 32 → edge (p .levels) now ≡ Offers
     → (let bit = bitAt position (standingAt (p .memory) at) in
-    (told (moved p now .upshot) ≡ Offered at bit) × (moved p now .port .line ≡ Driven bit))
+    (told part (moved p now .upshot) ≡ Offered at bit) × (moved p now .port .line ≡ Driven bit))
 unfolding moved framedBy frame offered
-offer-next p now at position there size e =
+offer-next part p now at position there size e =
     let bit = ap (bitAt position) (standing (p .memory) size at) in
     (rw (e, there .is) (ap (Offered at) bit), rw (e, there .is) (ap Driven bit))
 

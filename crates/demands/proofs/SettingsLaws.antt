@@ -32,19 +32,19 @@ use Rattle.demands.proofs.Ports.{Sixteen, first-keeps}
 abbrev settingsBy : Act → Settings → Settings
 settingsBy Keep s = s
 settingsBy (Store at nibble) s = s
-settingsBy (Obey code) s = obeyedAs (codeMeaning (2 * code)) s
+settingsBy (Obey code) s = obeyedAs (codeMeaning (s .part) (2 * code)) s
 
-decoded-settings : (decoded : Decoded) (code : ℕ) (s : Settings) → codeMeaning (2 * code) ≡ decoded
+decoded-settings : (decoded : Decoded) (code : ℕ) (s : Settings) → codeMeaning (s .part) (2 * code) ≡ decoded
     → obeyedAs decoded s ≡ settingsBy (act (decodedAnswer decoded code)) s
 unfolding obeyedAs
 decoded-settings Undefined code s e = refl
 decoded-settings (Means command) code s e = sym (ap (λ (d : Decoded). obeyedAs d s) e)
 
-upshot-settings : (upshot : Upshot) → Own upshot → (s : Settings) → settingsAfter upshot s ≡ settingsBy (act (told upshot)) s
+upshot-settings : (upshot : Upshot) → Own upshot → (s : Settings) → settingsAfter upshot s ≡ settingsBy (act (told (s .part) upshot)) s
 unfolding settingsAfter
 upshot-settings (Answered answer) own s = sym (ap (λ (a : Act). settingsBy a s) (own .0))
 upshot-settings (Nibble at nibble) own s = refl
-upshot-settings (Code code) own s = decoded-settings (codeMeaning (2 * code)) code s refl
+upshot-settings (Code code) own s = decoded-settings (codeMeaning (s .part) (2 * code)) code s refl
 
 -- the settings after events that were answered so
 abbrev through : List Event → List Answer → Settings → Settings

@@ -5,6 +5,7 @@ use mathlib.Core.Bool.{Bool, true, false, cond}
 use mathlib.Core.List.{List, [], _∷_, _++_, map}
 use Prim.Native.Nat.{ℕ, zero, suc, _+_, _-_, _*_, _/_, _≤_, min}
 use native.Mathlib.Omega.{arith}
+use Rattle.ground.specs.declared.Part.{Part}
 use lib.Dec.{leb}
 use lib.ListN.{length, getD, take, drop, length-take, List·getD-map, List·getD-eq-default}
 use lib.Seq.{sets, sets-eq, paste, paste-zero, take-all}
@@ -63,15 +64,15 @@ sets-paste m first x ns h =
 -- ---- the law
 
 -- of a port that is fed levels
-pub write-stopped : (p : Port) (first : ℕ) (ns : List ℕ) (k : ℕ) → length (p .memory) ≡ addresses → Fit first ns
+pub write-stopped : (part : Part) (p : Port) (first : ℕ) (ns : List ℕ) (k : ℕ) → length (p .memory) ≡ addresses → Fit first ns
     → (runP p (take k (writeL first ns)) ≡ stoppedPort p first ns k)
-    × (trace p (take k (writeL first ns)) ≡ take k (writeAnswers p first ns))
-write-stopped p first ns zero size fit = (refl, refl)
-write-stopped p first ns (suc k) size fit =
+    × (trace part p (take k (writeL first ns)) ≡ take k (writeAnswers p first ns))
+write-stopped part p first ns zero size fit = (refl, refl)
+write-stopped part p first ns (suc k) size fit =
     let rest = take k (restL first ++ nibblesL ns) in
-    let cut = after-first (p .memory) first ns fit k in (
+    let cut = after-first part (p .memory) first ns fit k in (
       run-opened p rest ∙ cut .0 ∙ ap₂ (standing first ns (suc k)) memory last,
-      trace-opened p rest ∙ ap (λ (answers : List Answer). firstAnswer p ∷ answers) (cut .1),
+      trace-opened p part rest ∙ ap (λ (answers : List Answer). firstAnswer p ∷ answers) (cut .1),
     )
   where
     memory : sets (p .memory) first (take ((suc k - 20) / 8) ns) ≡ paste (p .memory) first ns (completed (length ns) (suc k))
@@ -85,8 +86,9 @@ write-stopped p first ns (suc k) size fit =
 -- of a chip, with ticks anywhere
 pub stopped-writes : StoppedWrites
 stopped-writes c first ns k es valid accepts e =
-    let law = write-stopped (c .port) first ns k (valid .port .size) (accepted-write first ns accepts) in
-    (after-port c es small ∙ ap (runP (c .port)) fed ∙ law .0, after-answers c es small ∙ ap (trace (c .port)) fed ∙ law .1)
+    let part = c .settings .part in
+    let law = write-stopped part (c .port) first ns k (valid .port .size) (accepted-write first ns accepts) in
+    (after-port c es small ∙ ap (runP (c .port)) fed ∙ law .0, after-answers c es small ∙ ap (trace part (c .port)) fed ∙ law .1)
   where
     small : Sixteen (samples es)
     small = subst Sixteen (sym e) (take-sixteen k (writeStream first ns) (write-sixteen first ns))

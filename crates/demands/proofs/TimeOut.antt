@@ -7,15 +7,16 @@ use native.Mathlib.Omega.{arith}
 use lib.Dec.{eqb}
 use borrow.Author.Tests.{eqb-true, ne-eqb}
 use Rattle.clock.specs.declared.Source.{Source}
-use Rattle.clock.specs.declared.Source.the-variants.{Xtal, Rc, Ext}
+use Rattle.clock.specs.declared.Prescaler.{Prescaler}
+use Rattle.clock.specs.declared.Scan.{Scan}
 use Rattle.clock.specs.declared.Counters.{Counters}
 use Rattle.clock.specs.Sizes.{watchdogSize}
-use Rattle.clock.specs.Ticks.{prescalerStepped, tonerStepped, dividerStepped, baseStepped, watchdogStepped, due, timerStepped, baseTicked, prescaledTick, countersTicked}
+use Rattle.clock.specs.Ticks.{tonerStepped, dividerStepped, baseStepped, watchdogStepped, due, timerStepped, baseTicked, prescaled, isBaseTick, countersTicked, scanTicked}
 use Rattle.commands.specs.declared.Command.the-variants.{IrqDis, IrqEn}
 use Rattle.settings.specs.declared.IrqSource.{IrqSource}
 use Rattle.settings.specs.declared.IrqSource.the-variants.{Flag}
 use Rattle.settings.specs.declared.Settings.{Settings}
-use Rattle.settings.specs.Settings.{irqTo, irqSourceTo, countersTo, flagTo}
+use Rattle.settings.specs.Settings.{irqTo, irqSourceTo, countersTo, scanTo, flagTo}
 use Rattle.rules.specs.Effects.{effect}
 use Rattle.ticks.specs.Ticks.{running, ticked, advanced}
 use Rattle.ticks.proofs.TicksLaws.{advanced-add}
@@ -78,23 +79,20 @@ unfolding baseTicked timerStepped
 baseTicked-flags on rate flag c =
     base-flags on (due rate (dividerStepped (c .timer .divider) .count)) (eqb (baseStepped (c .timer .base) .count) 0) flag c
 
-prescaledTick-flags : (on : Bool) (rate : ℕ) → Flags (prescaledTick on rate)
-unfolding prescaledTick
-prescaledTick-flags on rate flag c = by (eqb (prescalerStepped (c .prescaler) .count) 0)
-  where
-    next : Counters
-    next = record { prescaler = prescalerStepped (c .prescaler); toner = c .toner; timer = c .timer }
-
-    by : (full : Bool) → cond full (baseTicked on rate (flagTo flag next)) (flagTo flag next)
-        ≡ flagTo (flag || cameBack (w-count c) (w-count (cond full (baseTicked on rate next) next))) (cond full (baseTicked on rate next) next)
-    by true = baseTicked-flags on rate flag next
-    by false = ap (λ (f : Bool). flagTo f next) (stands flag (w-count c))
-
 countersTicked-flags : (source : Source) (on : Bool) (rate : ℕ) → Flags (countersTicked source on rate)
 unfolding countersTicked
-countersTicked-flags Xtal on rate = baseTicked-flags on rate
-countersTicked-flags Rc on rate = prescaledTick-flags on rate
-countersTicked-flags Ext on rate = prescaledTick-flags on rate
+countersTicked-flags source on rate flag c = by (isBaseTick source p)
+  where
+    p : Prescaler
+    p = prescaled source (c .prescaler)
+
+    next : Counters
+    next = record { prescaler = p; toner = c .toner; timer = c .timer }
+
+    by : (base : Bool) → cond base (baseTicked on rate (flagTo flag next)) (flagTo flag next)
+        ≡ flagTo (flag || cameBack (w-count c) (w-count (cond base (baseTicked on rate next) next))) (cond base (baseTicked on rate next) next)
+    by true = baseTicked-flags on rate flag next
+    by false = ap (λ (f : Bool). flagTo f next) (stands flag (w-count c))
 
 -- ---- ticks of the settings, with this flag, this output and the flag for the IRQ source
 
@@ -108,9 +106,18 @@ ticked-showing flag on s = by (running s)
     next : Counters → Counters
     next = countersTicked (s .system .source) (s .base .on) (s .base .rate)
 
-    by : (runs : Bool) → cond runs (countersTo (next (flagTo flag (s .counters))) (showing flag on s)) (showing flag on s)
-        ≡ showing (flag || cameBack (w s) (w (cond runs (countersTo (next (s .counters)) s) s))) on (cond runs (countersTo (next (s .counters)) s) s)
-    by true = ap (λ (c : Counters). countersTo c (showing flag on s)) (countersTicked-flags (s .system .source) (s .base .on) (s .base .rate) flag (s .counters))
+    scan : Scan
+    scan = scanTicked (s .system .source) (prescaled (s .system .source) (s .counters .prescaler)) (s .part) (s .lcd .commons) (s .scan)
+
+    after : Settings
+    after = scanTo scan (countersTo (next (s .counters)) s)
+
+    by : (runs : Bool)
+        → cond runs (scanTo scan (countersTo (next (flagTo flag (s .counters))) (showing flag on s))) (showing flag on s)
+        ≡ showing (flag || cameBack (w s) (w (cond runs after s))) on (cond runs after s)
+    by true =
+        ap (λ (c : Counters). scanTo scan (countersTo c (showing flag on s)))
+        (countersTicked-flags (s .system .source) (s .base .on) (s .base .rate) flag (s .counters))
     by false = ap (λ (f : Bool). showing f on s) (stands flag (w s))
 
 advanced-showing : (n : ℕ) (flag on : Bool) (s : Settings) → advanced n (showing flag on s) ≡ showing (flag || comesRound n s) on (advanced n s)

@@ -8,6 +8,7 @@ use lib.Dec.{eqb, ltb}
 use lib.ListN.{length}
 use Rattle.ground.specs.declared.Outcome.the-variants.{Written}
 use Rattle.ground.specs.Outcomes.{Row, row, numberBy, RefusedWith, AsTabled}
+use Rattle.ground.specs.Parts.{partOf}
 use Rattle.ground.specs.Places.{lowest, somewhere}
 use Rattle.commands.specs.Commands.{commandFault}
 use Rattle.chip.specs.Chip.{stepped}
@@ -35,12 +36,13 @@ readTable first count room =
     ∷ row (ltb 32 (first + count)) 30 0
     ∷ row (ltb room (21 + 8 * count)) 25 0 ∷ []
 
--- Giving commands.
-abbrev pub commandTable : List ℕ → ℕ → List Row
-commandTable codes room =
-    row (eqb (length codes) 0) 21 0
+-- Giving commands to a chip of this part, of which there are 0 and 1: a command is at fault by the part's own table.
+abbrev pub commandTable : ℕ → List ℕ → ℕ → List Row
+commandTable part codes room =
+    row (ltb 1 part) 43 0
+    ∷ row (eqb (length codes) 0) 21 0
     ∷ row (ltb 32 (length codes)) 31 0
-    ∷ row (somewhere commandFault codes) 24 (lowest commandFault codes)
+    ∷ row (somewhere (commandFault (partOf part)) codes) 24 (lowest (commandFault (partOf part)) codes)
     ∷ row (ltb room (9 + 18 * length codes)) 25 0 ∷ []
 
 -- Decoding noted bytes.
@@ -50,10 +52,11 @@ decodeTable noted room =
     ∷ row (somewhere (ltb 1) noted) 27 (lowest (ltb 1) noted)
     ∷ row (ltb room (length noted / 4)) 25 0 ∷ []
 
--- Power-on with a memory, into a buffer for its record.
-abbrev pub powerOnTable : List ℕ → ℕ → List Row
-powerOnTable memory room =
-    row (not (eqb (length memory) 32)) 29 0
+-- Power-on of a part with a memory, into a buffer for its record.
+abbrev pub powerOnTable : ℕ → List ℕ → ℕ → List Row
+powerOnTable part memory room =
+    row (ltb 1 part) 43 0
+    ∷ row (not (eqb (length memory) 32)) 29 0
     ∷ row (somewhere (ltb 15) memory) 23 (lowest (ltb 15) memory)
     ∷ row (ltb room 64) 25 0 ∷ []
 
@@ -77,24 +80,27 @@ pub record Accepted : Type 0 where
   pub write : (first : ℕ) (nibbles : List ℕ) (room : ℕ)
       → AsTabled (writeTable first nibbles room) (21 + 8 * length nibbles) (writeAnswer first nibbles room)
   pub read : (first count room : ℕ) → AsTabled (readTable first count room) (21 + 8 * count) (readAnswer first count room)
-  pub commands : (codes : List ℕ) (room : ℕ) → AsTabled (commandTable codes room) (9 + 18 * length codes) (commandAnswer codes room)
+  pub commands : (part : ℕ) (codes : List ℕ) (room : ℕ)
+      → AsTabled (commandTable part codes room) (9 + 18 * length codes) (commandAnswer part codes room)
   pub decode : (noted : List ℕ) (room : ℕ) → AsTabled (decodeTable noted room) (length noted / 4) (decodeAnswer noted room)
-  pub powerOn : (memory : List ℕ) (room : ℕ) → AsTabled (powerOnTable memory room) 64 (powerOnAnswer memory room)
+  pub powerOn : (part : ℕ) (memory : List ℕ) (room : ℕ) → AsTabled (powerOnTable part memory room) 64 (powerOnAnswer part memory room)
   -- the same through the calls for C
   pub writeCall : (first : ℕ) (nibbles out : List ℕ)
       → writeReturns first nibbles out ≡ codeBy (writeTable first nibbles (length out)) (21 + 8 * length nibbles)
   pub readCall : (first count : ℕ) (out : List ℕ)
       → readReturns first count out ≡ codeBy (readTable first count (length out)) (21 + 8 * count)
-  pub commandsCall : (codes out : List ℕ) → commandsReturns codes out ≡ codeBy (commandTable codes (length out)) (9 + 18 * length codes)
+  pub commandsCall : (part : ℕ) (codes out : List ℕ)
+      → commandsReturns part codes out ≡ codeBy (commandTable part codes (length out)) (9 + 18 * length codes)
   pub decodeCall : (noted out : List ℕ) → decodeReturns noted out ≡ codeBy (decodeTable noted (length out)) (length noted / 4)
-  pub powerOnCall : (memory bytes : List ℕ) → powerOnReturns memory bytes ≡ codeBy (powerOnTable memory (length bytes)) 64
+  pub powerOnCall : (part : ℕ) (memory bytes : List ℕ)
+      → powerOnReturns part memory bytes ≡ codeBy (powerOnTable part memory (length bytes)) 64
   -- and the numbers of the calls on a record
   pub step : (bytes : List ℕ) (sample : ℕ)
       → stepReturns bytes sample ≡ numberBy (stepTable bytes sample) (answerCode (stepped (chipOf bytes) sample .answer))
   pub advance : (bytes : List ℕ) → advanceReturns bytes ≡ numberBy (advanceTable bytes) 0
   pub pins : (bytes cells : List ℕ) → pinsReturns bytes cells ≡ numberBy (pinsTable bytes cells) (pinsCode (pinsShown (chipOf bytes)))
 
--- Which range was wrong, whatever else is at fault and in any room. It is said of every first address and every count, so of 2^64 - 1
+-- Which range was wrong, whatever else is at fault, but for the part, which commands are asked for first, and in any room. It is said of every first address and every count, so of 2^64 - 1
 -- for both, whose sum 64 bits do not hold.
 pub record WhichRange : Type 0 where
   -- a first address above 31, whatever the count from 1 up
@@ -105,10 +111,11 @@ pub record WhichRange : Type 0 where
   pub writeEnd : (first : ℕ) (nibbles : List ℕ) (room : ℕ) → first ≤ 31 → 32 < first + length nibbles
       → RefusedWith 30 0 (writeAnswer first nibbles room)
   pub readEnd : (first count room : ℕ) → first ≤ 31 → 32 < first + count → RefusedWith 30 0 (readAnswer first count room)
-  -- more than 32 commands
-  pub commandsMany : (codes : List ℕ) (room : ℕ) → 32 < length codes → RefusedWith 31 0 (commandAnswer codes room)
+  -- more than 32 commands, for either part
+  pub commandsMany : (part : ℕ) (codes : List ℕ) (room : ℕ) → part ≤ 1 → 32 < length codes
+      → RefusedWith 31 0 (commandAnswer part codes room)
 
--- A write, a read and commands that the driver accepts: given just room enough, it writes the stream.
+-- A write, a read, and commands for a part, that the driver accepts: given just room enough, it writes the stream.
 abbrev pub AcceptsWrite : ℕ → List ℕ → Type 0
 AcceptsWrite first nibbles =
     writeAnswer first nibbles (length (writeStream first nibbles)) ≡ Written (length (writeStream first nibbles))
@@ -116,5 +123,5 @@ AcceptsWrite first nibbles =
 abbrev pub AcceptsRead : ℕ → ℕ → Type 0
 AcceptsRead first count = readAnswer first count (length (readStream first count)) ≡ Written (length (readStream first count))
 
-abbrev pub AcceptsCommands : List ℕ → Type 0
-AcceptsCommands codes = commandAnswer codes (length (commandStream codes)) ≡ Written (length (commandStream codes))
+abbrev pub AcceptsCommands : ℕ → List ℕ → Type 0
+AcceptsCommands part codes = commandAnswer part codes (length (commandStream codes)) ≡ Written (length (commandStream codes))

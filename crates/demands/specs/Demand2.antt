@@ -1,6 +1,6 @@
 -- Demand 2: requests are accepted exactly where the table says (Accepted.antt); what the driver writes for one that is, fed to the
--- model, does what was asked, and a read-back decodes to the memory read; from any valid chip, with ticks falling anywhere.
--- Assumes nothing.
+-- model, does what was asked, and a read-back decodes to the memory read; from any valid chip, with ticks falling anywhere. For
+-- a write or a read the part does not matter; commands are those of the chip's own part, which the driver was told. Assumes nothing.
 use mathlib.Core.Path.{_≡_}
 use mathlib.Core.Bool.{cond}
 use mathlib.Core.List.{List, [], _∷_}
@@ -8,6 +8,7 @@ use Prim.Native.Nat.{ℕ, suc, _+_, _*_}
 use lib.Dec.{eqb}
 use lib.ListN.{length, take, drop}
 use lib.Seq.{paste}
+use Rattle.ground.specs.Parts.{partNumber}
 use Rattle.commands.specs.Commands.{codeMeaning}
 use Rattle.settings.specs.declared.Settings.{Settings}
 use Rattle.ticks.specs.Ticks.{ticked, advanced}
@@ -91,7 +92,7 @@ dueCommands n (command ∷ codes) = record { sample = n; code = command } ∷ du
 -- The settings that ticks and the commands due at their samples make, n samples having passed.
 abbrev pub effectAt : List ObeyedAt → ℕ → Settings → Settings
 effectAt [] n s = s
-effectAt (due ∷ rest) n s = cond (eqb (due .sample) n) (obeyedAs (codeMeaning (2 * due .code)) s) (effectAt rest n s)
+effectAt (due ∷ rest) n s = cond (eqb (due .sample) n) (obeyedAs (codeMeaning (s .part) (2 * due .code)) s) (effectAt rest n s)
 
 abbrev pub between : List ObeyedAt → ℕ → List Event → Settings → Settings
 between due n [] s = s
@@ -114,5 +115,5 @@ pub record Demand2 : Type 0 where
       → samples events ≡ writeStream first nibbles → Writes chip first nibbles events
   pub reads : (chip : Chip) (first count : ℕ) (events : List Event) → Valid chip → AcceptsRead first count
       → samples events ≡ readStream first count → Reads chip first count events
-  pub commands : (chip : Chip) (codes : List ℕ) (events : List Event) → Valid chip → AcceptsCommands codes
-      → samples events ≡ commandStream codes → Commands chip codes events
+  pub commands : (chip : Chip) (codes : List ℕ) (events : List Event) → Valid chip
+      → AcceptsCommands (partNumber (chip .settings .part)) codes → samples events ≡ commandStream codes → Commands chip codes events

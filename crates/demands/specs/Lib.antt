@@ -4,6 +4,7 @@ pub mod Cases
 pub mod Demand2
 pub mod Demand3
 pub mod Events
+pub mod Parts
 pub mod Records
 pub mod Round
 pub mod Stopped

@@ -83,7 +83,8 @@ pub record Demand2OfRecords : Type 0 where
       → sent calls ≡ writeStream first nibbles → CallsWrite bytes first nibbles calls
   pub reads : (bytes : List ℕ) (first count : ℕ) (calls : List Call) → recordValid bytes ≡ true → AcceptsRead first count
       → sent calls ≡ readStream first count → CallsRead bytes first count calls
-  pub commands : (bytes codes : List ℕ) (calls : List Call) → recordValid bytes ≡ true → AcceptsCommands codes
+  -- of the part in byte 58
+  pub commands : (bytes codes : List ℕ) (calls : List Call) → recordValid bytes ≡ true → AcceptsCommands (byte bytes 58) codes
       → sent calls ≡ commandStream codes → CallsCommand bytes codes calls
 
 -- ---- demand 3

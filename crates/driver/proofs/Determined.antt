@@ -17,7 +17,7 @@ write-determined κs args x y end end' p q = (p .answer ∙ sym (q .answer), p .
 pub read-determined : DeterminedWith 1 read-kinds.ps read-kinds.r (λ κs end. end .1 .1 .0 .now) read-reads.Post
 read-determined κs args x y end end' p q = (p .answer ∙ sym (q .answer), p .bytes ∙ sym (q .bytes))
 
-pub commands-determined : DeterminedWith 2 commands-kinds.ps commands-kinds.r (λ κs end. end .1 .0 .now)
+pub commands-determined : DeterminedWith 2 commands-kinds.ps commands-kinds.r (λ κs end. end .1 .1 .0 .now)
     commands-reads.Post
 commands-determined κs args x y end end' p q = (p .answer ∙ sym (q .answer), p .bytes ∙ sym (q .bytes))
 

@@ -4,10 +4,11 @@ use mathlib.Core.Bool.{Bool, not, _||_}
 use mathlib.Core.List.{List, [], _∷_}
 use lib.Dec.{eqb, ltb}
 use lib.ListN.{length}
-use Rattle.ground.specs.declared.Refusal.the-variants.{NothingAsked, AddressAbove, RunsPastEnd, TooManyCommands, NibbleAbove, UndefinedCommand}
+use Rattle.ground.specs.declared.Refusal.the-variants.{NothingAsked, AddressAbove, RunsPastEnd, TooManyCommands, NibbleAbove, UndefinedCommand, UnknownPart}
 use Rattle.ground.specs.declared.Refusal.the-variants.{NotedCount, NotedAbove}
 use Rattle.ground.specs.declared.Outcome.{Outcome}
 use Rattle.ground.specs.Outcomes.{Rung, refusedIf, answered}
+use Rattle.ground.specs.Parts.{isPart, partOf}
 use Rattle.ground.specs.Places.{lowest, somewhere}
 unfoldable pub use Rattle.commands.specs.Commands.{commandFault}
 use Rattle.ground.specs.Sizes.{addresses}
@@ -77,16 +78,17 @@ readRefusals first count room =
 unfoldable pub readAnswer : ℕ → ℕ → ℕ → Outcome
 readAnswer first count room = answered (readRefusals first count room) (readStream first count)
 
--- Commands.
-abbrev pub commandRefusals : List ℕ → ℕ → List Rung
-commandRefusals codes room =
-    refusedIf (nothing (length codes)) NothingAsked
+-- Commands, for a chip of the part with this number: which of them are undefined goes by the part.
+abbrev pub commandRefusals : ℕ → List ℕ → ℕ → List Rung
+commandRefusals part codes room =
+    refusedIf (not (isPart part)) UnknownPart
+    ∷ refusedIf (nothing (length codes)) NothingAsked
     ∷ refusedIf (tooMany (length codes)) TooManyCommands
-    ∷ refusedIf (somewhere commandFault codes) (UndefinedCommand (lowest commandFault codes))
+    ∷ refusedIf (somewhere (commandFault (partOf part)) codes) (UndefinedCommand (lowest (commandFault (partOf part)) codes))
     ∷ noRoom (commandStream codes) room ∷ []
 
-unfoldable pub commandAnswer : List ℕ → ℕ → Outcome
-commandAnswer codes room = answered (commandRefusals codes room) (commandStream codes)
+unfoldable pub commandAnswer : ℕ → List ℕ → ℕ → Outcome
+commandAnswer part codes room = answered (commandRefusals part codes room) (commandStream codes)
 
 -- Noted bytes: a byte is written for each four.
 abbrev pub decodeRefusals : List ℕ → ℕ → List Rung

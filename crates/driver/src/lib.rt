@@ -1,4 +1,4 @@
-// The host's side of an HT1621: sample streams for writes, reads and commands, and the meaning of what a read noted.
+// The host's side of an HT1621 or a GN1621: sample streams for writes, reads and commands, and the meaning of what a read noted.
 // Every call is answered: with the number of bytes that it wrote at the start of the buffer lent, or with the reason
 // why it wrote none. What is not refused here is for `streams` to write, which refuses last, a buffer too short.
 // Assumes nothing.
@@ -7,6 +7,7 @@ ghost use Rattle.ground.specs.Outcomes.{ComesTo};
 ghost use Rattle.streams.specs.Streams.{writeStream, readStream, commandStream, decoded};
 ghost use Rattle.driver.specs.Refusals.{writeAnswer, readAnswer, commandAnswer, decodeAnswer};
 use ground::Outcome;
+use ground::PartRead;
 use ground::Refusal;
 
 // The most commands that one stream takes, and the most notes that are decoded: those of every address.
@@ -59,21 +60,25 @@ pub fn read(first: usize, count: usize, out: &mut [u8]) -> Outcome
     streams::read(first as u8, count, out)
 }
 
-// The stream that gives commands, each by the byte of its upper eight bits: 9 bytes, and 18 for each command. Refused,
-// in this order: no command; more than 32; an undefined one, with its place; a buffer too short.
-pub fn commands(codes: &[u8], out: &mut [u8]) -> Outcome
+// The stream that gives commands to a chip of the part with this number, each by the byte of its upper eight bits: 9 bytes, and 18
+// for each command. Refused, in this order: a part that is none; no command; more than 32; one that is undefined in the part, with its
+// place; a buffer too short.
+pub fn commands(number: usize, codes: &[u8], out: &mut [u8]) -> Outcome
     ensures { λ r. ⌜ ComesTo
-        (commandAnswer (now (codes .entry)) (length (now (out .entry))))
+        (commandAnswer number (now (codes .entry)) (length (now (out .entry))))
         (commandStream (now (codes .entry)))
         (now (out .entry)) r (now (out .exit)) ⌝ }
 {
+    let PartRead::Known(part) = ground::part_of(number) else {
+        return Outcome::Refused(Refusal::UnknownPart);
+    };
     if codes.len() == 0 {
         return Outcome::Refused(Refusal::NothingAsked);
     }
     if MOST_COMMANDS < codes.len() {
         return Outcome::Refused(Refusal::TooManyCommands);
     }
-    let place = commands::first_undefined(codes);
+    let place = commands::first_undefined(part, codes);
     if place < codes.len() {
         return Outcome::Refused(Refusal::UndefinedCommand(place));
     }

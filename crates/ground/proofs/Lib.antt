@@ -3,6 +3,7 @@ pub mod ChoiceLaws
 pub mod CodesLaws
 pub mod Determined
 pub mod OutcomesLaws
+pub mod PartsLaws
 pub mod PlacesLaws
 pub mod RangesLaws
 pub mod WrittenLaws

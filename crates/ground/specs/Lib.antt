@@ -2,6 +2,7 @@ pub mod Bits
 pub mod Codes
 pub mod Determined
 pub mod Outcomes
+pub mod Parts
 pub mod Places
 pub mod Ranges
 pub mod Refusals

@@ -2,7 +2,7 @@
 use Prim.Native.Nat.{ℕ}
 use Rattle.ground.specs.declared.Refusal.{Refusal}
 use Rattle.ground.specs.declared.Refusal.the-variants.{SampleAbove, NothingAsked, AddressAbove, NibbleAbove, UndefinedCommand, OutputShort, NotedCount, NotedAbove, Malformed, MemoryCount}
-use Rattle.ground.specs.declared.Refusal.the-variants.{RunsPastEnd, TooManyCommands}
+use Rattle.ground.specs.declared.Refusal.the-variants.{RunsPastEnd, TooManyCommands, UnknownPart}
 
 -- The number of each refusal.
 abbrev pub refusalNumber : Refusal → ℕ
@@ -18,6 +18,7 @@ refusalNumber Malformed = 28
 refusalNumber MemoryCount = 29
 refusalNumber RunsPastEnd = 30
 refusalNumber TooManyCommands = 31
+refusalNumber UnknownPart = 43
 
 -- The lowest index at fault where the table says (place), and 0 for the others.
 abbrev pub refusalPlace : Refusal → ℕ
@@ -33,3 +34,4 @@ refusalPlace Malformed = 0
 refusalPlace MemoryCount = 0
 refusalPlace RunsPastEnd = 0
 refusalPlace TooManyCommands = 0
+refusalPlace UnknownPart = 0

@@ -1,16 +1,52 @@
-// What every crate above shares: sizes; the refusals and their numbers; what a call that writes bytes comes to; what
+// What every crate above shares: sizes; the parts, and the refusals, with their numbers; what a call that writes bytes comes to; what
 // it means that a contract determines its result; bits and bytes written over a buffer; and how one computed test becomes a
 // law. Assumes nothing.
 ghost use mathlib.Core.Path.{_≡_};
 ghost use lib.Dec.{ltb};
 ghost use Rattle.ground.specs.Places.{lowest};
 ghost use Rattle.ground.specs.Written.{memoryFrom};
+ghost use Rattle.ground.specs.Parts.{partNumber, partRead};
 ghost use Rattle.ground.specs.Refusals.{refusalNumber, refusalPlace};
 
 // How many addresses the memory has, and how many bytes a state record.
 pub const ADDRESSES: usize = 32;
 
 pub const RECORD_LENGTH: usize = 64;
+
+// Which chip it is: an HT1621 or a GN1621.
+pub enum Part {
+    Ht,
+    Gn,
+}
+
+// What the number of a part stands for.
+pub enum PartRead {
+    Known(Part),
+    Unknown,
+}
+
+impl Part {
+    // Its number, which callers give and the state record has.
+    pub fn number(self) -> u8
+        ensures { λ r. ⌜ r ≡ partNumber self ⌝ }
+    {
+        match self {
+            Part::Ht => 0,
+            Part::Gn => 1,
+        }
+    }
+}
+
+// The part with this number, if there is one.
+pub fn part_of(number: usize) -> PartRead
+    ensures { λ r. ⌜ r ≡ partRead number ⌝ }
+{
+    match number {
+        0 => PartRead::Known(Part::Ht),
+        1 => PartRead::Known(Part::Gn),
+        _ => PartRead::Unknown,
+    }
+}
 
 // Why a call was refused. A place is the lowest index at fault.
 pub enum Refusal {
@@ -38,6 +74,8 @@ pub enum Refusal {
     RunsPastEnd,
     // 31: more than 32 commands
     TooManyCommands,
+    // 43: a part that is none
+    UnknownPart,
 }
 
 impl Refusal {
@@ -58,6 +96,7 @@ impl Refusal {
             Refusal::MemoryCount => 29,
             Refusal::RunsPastEnd => 30,
             Refusal::TooManyCommands => 31,
+            Refusal::UnknownPart => 43,
         }
     }
 
@@ -78,6 +117,7 @@ impl Refusal {
             Refusal::MemoryCount => 0,
             Refusal::RunsPastEnd => 0,
             Refusal::TooManyCommands => 0,
+            Refusal::UnknownPart => 0,
         }
     }
 }

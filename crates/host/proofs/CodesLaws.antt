@@ -10,7 +10,8 @@ use borrow.Author.Tests.{lt-ltb, le-ltb, ltb-false}
 use Rattle.ground.proofs.ChoiceLaws.{either, by-cases}
 use Rattle.ground.specs.declared.Refusal.{Refusal}
 use Rattle.ground.specs.declared.Refusal.the-variants.{SampleAbove, NothingAsked, AddressAbove, NibbleAbove, UndefinedCommand}
-use Rattle.ground.specs.declared.Refusal.the-variants.{OutputShort, NotedCount, NotedAbove, Malformed, MemoryCount, RunsPastEnd, TooManyCommands}
+use Rattle.ground.specs.declared.Refusal.the-variants.{OutputShort, NotedCount, NotedAbove, Malformed, MemoryCount, RunsPastEnd, TooManyCommands, UnknownPart}
+use Rattle.ground.specs.Parts.{partOf}
 use Rattle.ground.specs.Places.{lowest}
 use Rattle.ground.specs.Refusals.{refusalNumber, refusalPlace}
 use Rattle.ground.specs.declared.Outcome.{Outcome}
@@ -36,6 +37,7 @@ number-small Malformed = omega arith
 number-small MemoryCount = omega arith
 number-small RunsPastEnd = omega arith
 number-small TooManyCommands = omega arith
+number-small UnknownPart = omega arith
 
 -- A success counts few bytes, a refusal has a low place.
 abbrev pub Small : Outcome → Type 0
@@ -125,18 +127,21 @@ read-small first count room =
       ),
     )
 
-pub commands-small : (codes : List ℕ) (room : ℕ) → Small (commandAnswer codes room)
+pub commands-small : (part : ℕ) (codes : List ℕ) (room : ℕ) → Small (commandAnswer part codes room)
 unfolding commandAnswer
-commands-small codes room =
-    ladder-small (commandRefusals codes room) (length (commandStream codes)) (
+commands-small part codes room =
+    ladder-small (commandRefusals part codes room) (length (commandStream codes)) (
       omega arith,
-      λ some. (
+      λ known. (
         omega arith,
-        λ e.
-            let few = ltb-false 32 (length codes) e in (
-              omega (arith, few, place-within commandFault codes),
-              λ clean. (omega arith, λ fits. omega (arith, few, commands-length codes)),
-            ),
+        λ some. (
+          omega arith,
+          λ e.
+              let few = ltb-false 32 (length codes) e in (
+                omega (arith, few, place-within (commandFault (partOf part)) codes),
+                λ clean. (omega arith, λ fits. omega (arith, few, commands-length codes)),
+              ),
+        ),
       ),
     )
 

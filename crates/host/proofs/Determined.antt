@@ -13,7 +13,7 @@ use Rattle.host.proofs.ht1621_commands.Reads as commands-reads
 use Rattle.host.proofs.ht1621_decode.Kinds as decode-kinds
 use Rattle.host.proofs.ht1621_decode.Reads as decode-reads
 
-pub power-on-determined : DeterminedWith 2 power-on-kinds.ps power-on-kinds.r (λ κs end. end .1 .0 .now) power-on-reads.Post
+pub power-on-determined : DeterminedWith 2 power-on-kinds.ps power-on-kinds.r (λ κs end. end .1 .1 .0 .now) power-on-reads.Post
 power-on-determined κs args x y end end' p q = (p .0 ∙ sym (q .0), p .1 ∙ sym (q .1))
 
 pub write-determined : DeterminedWith 2 write-kinds.ps write-kinds.r (λ κs end. end .1 .1 .0 .now) write-reads.Post
@@ -22,7 +22,7 @@ write-determined κs args x y end end' p q = (p .0 ∙ sym (q .0), p .1 ∙ sym 
 pub read-determined : DeterminedWith 1 read-kinds.ps read-kinds.r (λ κs end. end .1 .1 .0 .now) read-reads.Post
 read-determined κs args x y end end' p q = (p .0 ∙ sym (q .0), p .1 ∙ sym (q .1))
 
-pub commands-determined : DeterminedWith 2 commands-kinds.ps commands-kinds.r (λ κs end. end .1 .0 .now) commands-reads.Post
+pub commands-determined : DeterminedWith 2 commands-kinds.ps commands-kinds.r (λ κs end. end .1 .1 .0 .now) commands-reads.Post
 commands-determined κs args x y end end' p q = (p .0 ∙ sym (q .0), p .1 ∙ sym (q .1))
 
 pub decode-determined : DeterminedWith 2 decode-kinds.ps decode-kinds.r (λ κs end. end .1 .0 .now) decode-reads.Post

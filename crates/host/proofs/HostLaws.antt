@@ -10,7 +10,10 @@ use borrow.Author.Tests.{lt-ltb, le-ltb, ltb-false, eqb-true}
 use Rattle.ground.proofs.ChoiceLaws.{by-cases}
 use Rattle.ground.proofs.PlacesLaws.{none-above}
 use Rattle.ground.specs.declared.Refusal.{Refusal}
-use Rattle.ground.specs.declared.Refusal.the-variants.{OutputShort, NibbleAbove, MemoryCount}
+use Rattle.ground.specs.declared.Refusal.the-variants.{OutputShort, NibbleAbove, MemoryCount, UnknownPart}
+use Rattle.ground.specs.declared.Part.{Part}
+use Rattle.ground.specs.declared.Part.the-variants.{Ht}
+use Rattle.ground.specs.Parts.{isPart, partOf}
 use Rattle.ground.specs.declared.Outcome.{Outcome}
 use Rattle.ground.specs.declared.Outcome.the-variants.{Written, Refused}
 use Rattle.ground.specs.Sizes.{addresses, recordLength}
@@ -45,8 +48,9 @@ record Started (powered : PoweredOn) : Type 0 where
   place : startPlace (powered .answer) ≤ 128
   valid : Valid (powered .chip)
 
-fresh-valid : (memory : List ℕ) → length memory ≡ addresses → length memory ≤ lowest (ltb 15) memory → Valid (freshChip memory)
-fresh-valid memory size low = freshChip-valid memory size (nibbles-from memory (none-above 15 memory low))
+fresh-valid : (part : Part) (memory : List ℕ) → length memory ≡ addresses → length memory ≤ lowest (ltb 15) memory
+    → Valid (freshChip part memory)
+fresh-valid part memory size low = freshChip-valid part memory size (nibbles-from memory (none-above 15 memory low))
 
 -- a memory that is not refused with 29
 counted : (memory : List ℕ) → not (eqb (length memory) addresses) ≡ false → length memory ≡ addresses
@@ -56,23 +60,25 @@ counted memory e = eqb-true (length memory) addresses (by (eqb (length memory) a
     by true e = refl
     by false e = sym e
 
-started : (memory : List ℕ) → Started (poweredOn memory)
+started : (part : ℕ) (memory : List ℕ) → Started (poweredOn part memory)
 unfolding poweredOn emptyChip
-started memory =
-    let empty : Valid (freshChip (replicate addresses 0)) = fresh-valid (replicate addresses 0) refl (omega arith) in
+started part memory =
+    let empty : Valid (freshChip Ht (replicate addresses 0)) = fresh-valid Ht (replicate addresses 0) refl (omega arith) in
+    by-cases Started (not (isPart part)) (λ unknown. record { place = omega arith; valid = empty })
+    (λ known.
     by-cases Started (not (eqb (length memory) addresses)) (λ other. record { place = omega arith; valid = empty })
     (λ long. let size = counted memory long in
     by-cases Started (somewhere (ltb 15) memory)
     (λ above. record { place = omega (arith, size, place-within (ltb 15) memory); valid = empty })
-    (λ low. record { place = omega arith; valid = fresh-valid memory size (ltb-false _ _ low) }))
+    (λ low. record { place = omega arith; valid = fresh-valid (partOf part) memory size (ltb-false _ _ low) })))
 
 -- so what is written is a valid record, and its 64 bytes
-pub power-on-valid : (memory : List ℕ) → recordValid (powerOnRecord memory) ≡ true
+pub power-on-valid : (part : ℕ) (memory : List ℕ) → recordValid (powerOnRecord part memory) ≡ true
 unfolding powerOnRecord
-power-on-valid memory = chip-valid (poweredOn memory .chip) (started memory .valid)
+power-on-valid part memory = chip-valid (poweredOn part memory .chip) (started part memory .valid)
 
-pub power-on-size : (memory : List ℕ) → length (powerOnRecord memory) ≡ recordLength
-power-on-size memory = valid-has (powerOnRecord memory) (power-on-valid memory) .long
+pub power-on-size : (part : ℕ) (memory : List ℕ) → length (powerOnRecord part memory) ≡ recordLength
+power-on-size part memory = valid-has (powerOnRecord part memory) (power-on-valid part memory) .long
 
 -- what the chip answers decides first, and only where it is on the room
 abbrev whereOn : Start → Outcome → Outcome
@@ -82,56 +88,63 @@ whereOn (start.Refused why) then = Refused why
 abbrev recordFitted : ℕ → Outcome
 recordFitted room = cond (ltb room recordLength) (Refused OutputShort) (Written recordLength)
 
-power-on-due : (memory : List ℕ) (room : ℕ)
-    → powerOnAnswer memory room ≡ whereOn (poweredOn memory .answer) (recordFitted room)
+power-on-due : (part : ℕ) (memory : List ℕ) (room : ℕ)
+    → powerOnAnswer part memory room ≡ whereOn (poweredOn part memory .answer) (recordFitted room)
 unfolding powerOnAnswer poweredOn
-power-on-due memory room = by (not (eqb (length memory) addresses)) (somewhere (ltb 15) memory)
+power-on-due part memory room = by (not (isPart part)) (not (eqb (length memory) addresses)) (somewhere (ltb 15) memory)
   where
-    by : (other above : Bool)
-        → cond other (Refused MemoryCount) (cond above (Refused (NibbleAbove (lowest (ltb 15) memory))) (recordFitted room))
-        ≡ whereOn (cond other (notStarted MemoryCount)
-        (cond above (notStarted (NibbleAbove (lowest (ltb 15) memory))) (record { answer = start.On; chip = freshChip memory })) .answer)
+    by : (unknown other above : Bool)
+        → cond unknown (Refused UnknownPart)
+        (cond other (Refused MemoryCount) (cond above (Refused (NibbleAbove (lowest (ltb 15) memory))) (recordFitted room)))
+        ≡ whereOn (cond unknown (notStarted UnknownPart)
+        (cond other (notStarted MemoryCount)
+        (cond above (notStarted (NibbleAbove (lowest (ltb 15) memory)))
+        (record { answer = start.On; chip = freshChip (partOf part) memory }))) .answer)
         (recordFitted room)
-    by true above = refl
-    by false true = refl
-    by false false = refl
+    by true other above = refl
+    by false true above = refl
+    by false false true = refl
+    by false false false = refl
 
-module _ (memory bytes : List ℕ) (powered : PoweredOn) (e : powered ≡ poweredOn memory) where
-  answered : powered .answer ≡ poweredOn memory .answer
+module _ (part : ℕ) (memory bytes : List ℕ) (powered : PoweredOn) (e : powered ≡ poweredOn part memory) where
+  answered : powered .answer ≡ poweredOn part memory .answer
   answered = ap (λ (p : PoweredOn). p .answer) e
 
   pub power-on-held : (why : Refusal) → powered .answer ≡ start.Refused why → refusedCode why < 4294967296
-  power-on-held why r = refused-held why (rw (sym answered ∙ r) at (started memory .place))
+  power-on-held why r = refused-held why (rw (sym answered ∙ r) at (started part memory .place))
 
   due : (answer : Start) → powered .answer ≡ answer
-      → powerOnAnswer memory (length bytes) ≡ whereOn answer (recordFitted (length bytes))
+      → powerOnAnswer part memory (length bytes) ≡ whereOn answer (recordFitted (length bytes))
   due answer r =
-      power-on-due memory (length bytes) ∙ ap (λ (a : Start). whereOn a (recordFitted (length bytes))) (sym answered ∙ r)
+      power-on-due part memory (length bytes) ∙ ap (λ (a : Start). whereOn a (recordFitted (length bytes))) (sym answered ∙ r)
 
   pub power-on-refused : (why : Refusal) → powered .answer ≡ start.Refused why
-      → (refusedCode why ≡ powerOnReturns memory bytes) × (bytes ≡ powerOnBytes memory bytes)
+      → (refusedCode why ≡ powerOnReturns part memory bytes) × (bytes ≡ powerOnBytes part memory bytes)
   unfolding powerOnReturns powerOnBytes hostCode
   power-on-refused why r = let d = due (start.Refused why) r in (rw d refl, rw d refl)
 
   pub power-on-short : powered .answer ≡ start.On → length bytes < recordLength
-      → (refusedCode OutputShort ≡ powerOnReturns memory bytes) × (bytes ≡ powerOnBytes memory bytes)
+      → (refusedCode OutputShort ≡ powerOnReturns part memory bytes) × (bytes ≡ powerOnBytes part memory bytes)
   unfolding powerOnReturns powerOnBytes hostCode
   power-on-short r h = let d = due start.On r in (simp (d, lt-ltb _ _ h), simp (d, lt-ltb _ _ h))
 
   pub power-on-done : (after : List ℕ) → powered .answer ≡ start.On → recordLength ≤ length bytes
       → after ≡ writtenOver (powered .chip) bytes
-      → (recordLength ≡ powerOnReturns memory bytes) × (after ≡ powerOnBytes memory bytes)
+      → (recordLength ≡ powerOnReturns part memory bytes) × (after ≡ powerOnBytes part memory bytes)
   unfolding powerOnReturns powerOnBytes powerOnRecord writtenOver writtenAs hostCode
   power-on-done after r h w =
       let d = due start.On r in
       (simp (d, le-ltb _ _ h), w ∙ simp (e, le-ltb _ _ h, d))
 
 -- the code of every answer of power-on tells, too
-pub power-on-small : (memory : List ℕ) (room : ℕ) → Small (powerOnAnswer memory room)
+pub power-on-small : (part : ℕ) (memory : List ℕ) (room : ℕ) → Small (powerOnAnswer part memory room)
 unfolding powerOnAnswer
-power-on-small memory room =
-    ladder-small (recordRefusals memory room) recordLength (
+power-on-small part memory room =
+    ladder-small (recordRefusals part memory room) recordLength (
       omega arith,
-      λ long.
-          (omega (arith, counted memory long, place-within (ltb 15) memory), λ clean. (omega arith, λ fits. omega arith)),
+      λ known. (
+        omega arith,
+        λ long.
+            (omega (arith, counted memory long, place-within (ltb 15) memory), λ clean. (omega arith, λ fits. omega arith)),
+      ),
     )

@@ -25,22 +25,22 @@ hostCode outcome =
 abbrev pub refusedCode : Refusal → ℕ
 refusedCode why = hostCode (Refused why)
 
--- Power-on: the record of the chip handed out. It is refused as the chip refuses it, 29 and then 23 with its place; and 25 last of
--- all, where the 64 bytes of a record do not fit.
-unfoldable pub powerOnRecord : List ℕ → List ℕ
-powerOnRecord memory = recordOf (poweredOn memory .chip)
+-- Power-on: the record of the chip handed out. It is refused as the chip refuses it, 43, 29 and then 23 with its place; and 25 last
+-- of all, where the 64 bytes of a record do not fit.
+unfoldable pub powerOnRecord : ℕ → List ℕ → List ℕ
+powerOnRecord part memory = recordOf (poweredOn part memory .chip)
 
-abbrev pub recordRefusals : List ℕ → ℕ → List Rung
-recordRefusals memory room = powerOnRefusals memory ++ refusedIf (ltb room recordLength) OutputShort ∷ []
+abbrev pub recordRefusals : ℕ → List ℕ → ℕ → List Rung
+recordRefusals part memory room = powerOnRefusals part memory ++ refusedIf (ltb room recordLength) OutputShort ∷ []
 
-unfoldable pub powerOnAnswer : List ℕ → ℕ → Outcome
-powerOnAnswer memory room = ladder Refused (recordRefusals memory room) (Written recordLength)
+unfoldable pub powerOnAnswer : ℕ → List ℕ → ℕ → Outcome
+powerOnAnswer part memory room = ladder Refused (recordRefusals part memory room) (Written recordLength)
 
-unfoldable pub powerOnReturns : List ℕ → List ℕ → ℕ
-powerOnReturns memory bytes = hostCode (powerOnAnswer memory (length bytes))
+unfoldable pub powerOnReturns : ℕ → List ℕ → List ℕ → ℕ
+powerOnReturns part memory bytes = hostCode (powerOnAnswer part memory (length bytes))
 
-unfoldable pub powerOnBytes : List ℕ → List ℕ → List ℕ
-powerOnBytes memory bytes = left (powerOnAnswer memory (length bytes)) (powerOnRecord memory) bytes
+unfoldable pub powerOnBytes : ℕ → List ℕ → List ℕ → List ℕ
+powerOnBytes part memory bytes = left (powerOnAnswer part memory (length bytes)) (powerOnRecord part memory) bytes
 
 -- Writing nibbles, as the driver answers it.
 unfoldable pub writeReturns : ℕ → List ℕ → List ℕ → ℕ
@@ -56,12 +56,12 @@ readReturns first count out = hostCode (readAnswer first count (length out))
 unfoldable pub readBytes : ℕ → ℕ → List ℕ → List ℕ
 readBytes first count out = left (readAnswer first count (length out)) (readStream first count) out
 
--- Giving commands.
-unfoldable pub commandsReturns : List ℕ → List ℕ → ℕ
-commandsReturns codes out = hostCode (commandAnswer codes (length out))
+-- Giving commands to a part.
+unfoldable pub commandsReturns : ℕ → List ℕ → List ℕ → ℕ
+commandsReturns part codes out = hostCode (commandAnswer part codes (length out))
 
-unfoldable pub commandsBytes : List ℕ → List ℕ → List ℕ
-commandsBytes codes out = left (commandAnswer codes (length out)) (commandStream codes) out
+unfoldable pub commandsBytes : ℕ → List ℕ → List ℕ → List ℕ
+commandsBytes part codes out = left (commandAnswer part codes (length out)) (commandStream codes) out
 
 -- Decoding what a read noted.
 unfoldable pub decodeReturns : List ℕ → List ℕ → ℕ

@@ -32,14 +32,14 @@ fn code_of(answer: Outcome) -> u32
     }
 }
 
-// Power-on: writes the 64-byte record of a chip with these 32 nibbles for its memory. Refused, in this order: a memory
-// that is not 32 values; a value above 15, with its place; a buffer shorter than 64 bytes.
+// Power-on: writes the 64-byte record of a chip of the part with this number, with these 32 nibbles for its memory. Refused, in this
+// order: a part that is none; a memory that is not 32 values; a value above 15, with its place; a buffer shorter than 64 bytes.
 #[no_mangle]
-pub extern "C" fn ht1621_power_on(memory: &[u8], bytes: &mut [u8]) -> u32
-    ensures { λ r. ⌜ (r ≡ powerOnReturns (now (memory .entry)) (now (bytes .entry)))
-        × (now (bytes .exit) ≡ powerOnBytes (now (memory .entry)) (now (bytes .entry))) ⌝ }
+pub extern "C" fn ht1621_power_on(part: usize, memory: &[u8], bytes: &mut [u8]) -> u32
+    ensures { λ r. ⌜ (r ≡ powerOnReturns part (now (memory .entry)) (now (bytes .entry)))
+        × (now (bytes .exit) ≡ powerOnBytes part (now (memory .entry)) (now (bytes .entry))) ⌝ }
 {
-    let powered = power::power_on(memory);
+    let powered = power::power_on(part, memory);
     let answer = powered.answer;
     let chip = powered.chip;
     match answer {
@@ -76,14 +76,14 @@ pub extern "C" fn ht1621_read(first: usize, count: usize, out: &mut [u8]) -> u32
     code_of(answer)
 }
 
-// The stream that gives commands, each by the byte of its upper eight bits. Refused as `driver::commands` is:
-// 21, 31, 24 with its place, 25.
+// The stream that gives commands to a chip of the part with this number, each by the byte of its upper eight bits. Refused as
+// `driver::commands` is: 43, 21, 31, 24 with its place, 25.
 #[no_mangle]
-pub extern "C" fn ht1621_commands(codes: &[u8], out: &mut [u8]) -> u32
-    ensures { λ r. ⌜ (r ≡ commandsReturns (now (codes .entry)) (now (out .entry)))
-        × (now (out .exit) ≡ commandsBytes (now (codes .entry)) (now (out .entry))) ⌝ }
+pub extern "C" fn ht1621_commands(part: usize, codes: &[u8], out: &mut [u8]) -> u32
+    ensures { λ r. ⌜ (r ≡ commandsReturns part (now (codes .entry)) (now (out .entry)))
+        × (now (out .exit) ≡ commandsBytes part (now (codes .entry)) (now (out .entry))) ⌝ }
 {
-    let answer = driver::commands(codes, out);
+    let answer = driver::commands(part, codes, out);
     code_of(answer)
 }
 

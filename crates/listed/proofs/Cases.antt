@@ -1,10 +1,12 @@
--- RULES "The listing": its three inputs, an empty one, a tick and one that stops, computed from the definition. Assumes nothing.
+-- RULES "The listing": its four inputs, an empty one, a tick and one that stops, computed from the definition. Assumes nothing.
 use mathlib.Core.Path.{_≡_, refl}
 use mathlib.Core.List.{List, [], _∷_}
 use Prim.Native.Nat.{ℕ}
-use Rattle.frames.specs.Frames.{identified, identTaken, readToTaken, writeToTaken, nibbleTaken, taken, readOffered, offered, closed, frame}
+use Rattle.frames.specs.Frames.{identified, identTaken, readToTaken, writeToTaken, commandTaken, nibbleTaken, taken, readOffered, offered, closed, frame}
+use Rattle.commands.specs.Commands.{byteMeaning, codeMeaning}
+use Rattle.rules.specs.Effects.{effect}
 use Rattle.port.specs.Port.{memoryAfter, framedBy, moved}
-use Rattle.chip.specs.Chip.{settingsAfter, stepped, steppedTo}
+use Rattle.chip.specs.Chip.{obeyedAs, settingsAfter, stepped, steppedTo}
 use Rattle.power.specs.PowerOn.{emptyChip}
 use Rattle.listed.specs.Listing.{classOf, digits, decimal, field, line, answerLine, badLine, endLine}
 use Rattle.listed.specs.Listing.{listFrom, listing}
@@ -49,13 +51,27 @@ past-the-memory-listed =
     56 ∷ 32 ∷ 48 ∷ 32 ∷ 49 ∷ 10 ∷ 55 ∷ 52 ∷ 32 ∷ 50 ∷ 32 ∷ 48 ∷ 32 ∷ 48 ∷ 10 ∷ 101 ∷ 110 ∷ 100 ∷ 32 ∷ 55 ∷ 52 ∷ 32 ∷
     48 ∷ 10 ∷ []
 
+-- 0C and 0A as commands: the chip is an HT, for which the first is CLR TIMER and the second is undefined
+abbrev commands-of-ht : List ℕ
+commands-of-ht =
+    102 ∷ 101 ∷ 99 ∷ 101 ∷ 52 ∷ 54 ∷ 52 ∷ 54 ∷ 52 ∷ 54 ∷ 52 ∷ 54 ∷ 52 ∷ 54 ∷ 52 ∷ 54 ∷ 99 ∷ 101 ∷ 99 ∷ 101 ∷
+    52 ∷ 54 ∷ 52 ∷ 54 ∷ 52 ∷ 54 ∷ 52 ∷ 54 ∷ 52 ∷ 54 ∷ 52 ∷ 54 ∷ 52 ∷ 54 ∷ 99 ∷ 101 ∷ 52 ∷ 54 ∷ 99 ∷ 101 ∷ 52 ∷
+    54 ∷ 52 ∷ 54 ∷ 102 ∷ []
+
+abbrev commands-of-ht-listed : List ℕ
+commands-of-ht-listed =
+    50 ∷ 32 ∷ 49 ∷ 32 ∷ 48 ∷ 32 ∷ 48 ∷ 10 ∷ 50 ∷ 54 ∷ 32 ∷ 54 ∷ 32 ∷ 49 ∷ 50 ∷ 32 ∷ 48 ∷ 10 ∷ 52 ∷ 52 ∷ 32 ∷
+    55 ∷ 32 ∷ 49 ∷ 48 ∷ 32 ∷ 48 ∷ 10 ∷ 52 ∷ 53 ∷ 32 ∷ 50 ∷ 32 ∷ 48 ∷ 32 ∷ 48 ∷ 10 ∷ 101 ∷ 110 ∷ 100 ∷ 32 ∷
+    52 ∷ 53 ∷ 32 ∷ 48 ∷ 10 ∷ []
+
 -- nothing at all is `end 0 0`, `t` is `end 0 1`, and `t t`, a tab and `t` is `bad 3`
 pub listings-computed :
     (listing writes-5 ≡ writes-5-listed)
     × (listing too-many-bits ≡ too-many-bits-listed)
     × (listing past-the-memory ≡ past-the-memory-listed)
+    × (listing commands-of-ht ≡ commands-of-ht-listed)
     × (listing [] ≡ 101 ∷ 110 ∷ 100 ∷ 32 ∷ 48 ∷ 32 ∷ 48 ∷ 10 ∷ [])
     × (listing (116 ∷ []) ≡ 101 ∷ 110 ∷ 100 ∷ 32 ∷ 48 ∷ 32 ∷ 49 ∷ 10 ∷ [])
     × (listing (116 ∷ 32 ∷ 116 ∷ 9 ∷ 116 ∷ []) ≡ 98 ∷ 97 ∷ 100 ∷ 32 ∷ 51 ∷ 10 ∷ [])
-unfolding emptyChip classOf digits decimal field line answerLine badLine endLine listFrom listing stepped steppedTo moved framedBy memoryAfter settingsAfter frame taken closed identified identTaken writeToTaken nibbleTaken readToTaken offered readOffered
-listings-computed = (refl, refl, refl, refl, refl, refl)
+unfolding emptyChip classOf digits decimal field line answerLine badLine endLine listFrom listing stepped steppedTo moved framedBy memoryAfter settingsAfter frame taken closed identified identTaken writeToTaken nibbleTaken commandTaken readToTaken offered readOffered codeMeaning byteMeaning obeyedAs effect
+listings-computed = (refl, refl, refl, refl, refl, refl, refl)

@@ -85,7 +85,7 @@ listFrom chip samples ticks offset [] = endLine samples ticks
 listFrom chip samples ticks offset (byte ∷ input) =
     lists (classOf byte) chip samples ticks offset (λ next s t. listFrom next s t (offset + 1) input)
 
--- The whole output, from power-on with an empty memory; of more than 65,536 bytes only `long`, whatever they are.
+-- The whole output, from power-on of an HT with an empty memory; of more than 65,536 bytes only `long`, whatever they are.
 unfoldable pub listing : List ℕ → List ℕ
 listing input = cond (ltb 65536 (length input)) long (listFrom emptyChip 0 0 0 input)
 

@@ -6,7 +6,10 @@ use lib.Dec.{eqb, ltb}
 use Rattle.ground.specs.Sizes.{addresses}
 use lib.ListN.{length, replicate}
 use Rattle.ground.specs.declared.Refusal.{Refusal}
-use Rattle.ground.specs.declared.Refusal.the-variants.{NibbleAbove, MemoryCount}
+use Rattle.ground.specs.declared.Refusal.the-variants.{NibbleAbove, MemoryCount, UnknownPart}
+use Rattle.ground.specs.declared.Part.{Part}
+use Rattle.ground.specs.declared.Part.the-variants.{Ht}
+use Rattle.ground.specs.Parts.{isPart, partOf}
 use Rattle.ground.specs.Outcomes.{Rung, refusedIf, ladder}
 use Rattle.ground.specs.Places.{lowest, somewhere}
 use Rattle.ground.specs.Refusals.{refusalNumber, refusalPlace}
@@ -28,26 +31,28 @@ abbrev pub startPlace : Start → ℕ
 startPlace On = 0
 startPlace (Refused refusal) = refusalPlace refusal
 
--- The caller's memory, the settings of power-on, all lines high, no frame, and DATA released.
-abbrev pub freshChip : List ℕ → Chip
-freshChip memory =
+-- The caller's memory, the part's settings of power-on, all lines high, no frame, and DATA released.
+abbrev pub freshChip : Part → List ℕ → Chip
+freshChip part memory =
     record {
       port = record { memory = memory; levels = levels 15; phase = Idle; line = Released };
-      settings = powerOn;
+      settings = powerOn part;
     }
 
--- With an empty memory: RULES "The listing" begins so, and a refusal hands out such a chip.
+-- An HT with an empty memory: RULES "The listing" begins so, and a refusal hands out such a chip.
 unfoldable pub emptyChip : Chip
-emptyChip = freshChip (replicate addresses 0)
+emptyChip = freshChip Ht (replicate addresses 0)
 
 abbrev pub notStarted : Refusal → PoweredOn
 notStarted refusal = record { answer = Refused refusal; chip = emptyChip }
 
--- Its refusals, in order: 29 where the memory has not a value for each address, and 23 at the lowest value above 15.
-abbrev pub powerOnRefusals : List ℕ → List Rung
-powerOnRefusals memory =
-    refusedIf (not (eqb (length memory) addresses)) MemoryCount
+-- Its refusals, in order: 43 where there is no such part, 29 where the memory has not a value for each address, and 23 at the lowest
+-- value above 15.
+abbrev pub powerOnRefusals : ℕ → List ℕ → List Rung
+powerOnRefusals part memory =
+    refusedIf (not (isPart part)) UnknownPart
+    ∷ refusedIf (not (eqb (length memory) addresses)) MemoryCount
     ∷ refusedIf (somewhere (ltb 15) memory) (NibbleAbove (lowest (ltb 15) memory)) ∷ []
 
-unfoldable pub poweredOn : List ℕ → PoweredOn
-poweredOn memory = ladder notStarted (powerOnRefusals memory) (record { answer = On; chip = freshChip memory })
+unfoldable pub poweredOn : ℕ → List ℕ → PoweredOn
+poweredOn part memory = ladder notStarted (powerOnRefusals part memory) (record { answer = On; chip = freshChip (partOf part) memory })

@@ -3,6 +3,8 @@ ghost use mathlib.Core.Path.{_≡_};
 ghost use Rattle.power.specs.PowerOn.{freshChip, emptyChip, notStarted, poweredOn};
 use chip::Chip;
 use ground::ADDRESSES;
+use ground::Part;
+use ground::PartRead;
 use ground::Refusal;
 use phases::Line;
 use phases::Phase;
@@ -20,9 +22,9 @@ pub struct PoweredOn {
     pub chip: Chip,
 }
 
-// A chip that has just been powered on with this memory.
-fn fresh(memory: [u8; ADDRESSES]) -> Chip
-    ensures { λ r. ⌜ r ≡ freshChip memory ⌝ }
+// A chip of a part that has just been powered on with this memory.
+fn fresh(part: Part, memory: [u8; ADDRESSES]) -> Chip
+    ensures { λ r. ⌜ r ≡ freshChip part memory ⌝ }
 {
     Chip {
         port: Port {
@@ -31,15 +33,15 @@ fn fresh(memory: [u8; ADDRESSES]) -> Chip
             phase: Phase::Idle,
             line: Line::Released,
         },
-        settings: rules::at_power_on(),
+        settings: rules::at_power_on(part),
     }
 }
 
-// A chip at power-on with an empty memory: where a listing begins, and what is handed out beside a refusal.
+// An HT1621 at power-on with an empty memory: where a listing begins, and what is handed out beside a refusal.
 pub fn empty() -> Chip
     ensures { λ r. ⌜ r ≡ emptyChip ⌝ }
 {
-    fresh([0u8; ADDRESSES])
+    fresh(Part::Ht, [0u8; ADDRESSES])
 }
 
 fn not_started(refusal: Refusal) -> PoweredOn
@@ -51,10 +53,13 @@ fn not_started(refusal: Refusal) -> PoweredOn
     }
 }
 
-// A chip at power-on, with 32 nibbles for its memory.
-pub fn power_on(memory: &[u8]) -> PoweredOn
-    ensures { λ r. ⌜ r ≡ poweredOn (now (memory .entry)) ⌝ }
+// A chip at power-on, of the part with this number and with 32 nibbles for its memory.
+pub fn power_on(number: usize, memory: &[u8]) -> PoweredOn
+    ensures { λ r. ⌜ r ≡ poweredOn number (now (memory .entry)) ⌝ }
 {
+    let PartRead::Known(part) = ground::part_of(number) else {
+        return not_started(Refusal::UnknownPart);
+    };
     if memory.len() != ADDRESSES {
         return not_started(Refusal::MemoryCount);
     }
@@ -64,6 +69,6 @@ pub fn power_on(memory: &[u8]) -> PoweredOn
     }
     PoweredOn {
         answer: Start::On,
-        chip: fresh(ground::memory_from(memory)),
+        chip: fresh(part, ground::memory_from(memory)),
     }
 }

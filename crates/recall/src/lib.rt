@@ -2,7 +2,8 @@
 ghost use mathlib.Core.Path.{_≡_};
 ghost use lib.ListN.{length};
 ghost use Rattle.ground.specs.Sizes.{recordLength};
-ghost use Rattle.settings.specs.Bytes.{settingsInRange, settingsOf, selectionsRead, settingsRead};
+ghost use Rattle.ground.specs.Parts.{partOf};
+ghost use Rattle.settings.specs.Bytes.{scanFits, settingsHeld, settingsOf, settingsRead};
 
 mod codes; // codes.rt: coded bytes, each read to a case
 
@@ -10,22 +11,18 @@ use clock::BaseCounter;
 use clock::Counters;
 use clock::Divider;
 use clock::Prescaler;
+use clock::Scan;
 use clock::Timer;
 use clock::Toner;
 use clock::Watchdog;
+use ground::Part;
 use ground::RECORD_LENGTH;
 use settings::Base;
-use settings::BiasRead;
-use settings::CommonsRead;
 use settings::Irq;
-use settings::IrqSourceRead;
 use settings::Lcd;
-use settings::PitchRead;
 use settings::SETTINGS_AT;
-use settings::SelectionsRead;
 use settings::Settings;
 use settings::SettingsRead;
-use settings::SourceRead;
 use settings::System;
 use settings::Tone;
 use settings::offsets;
@@ -33,15 +30,15 @@ use settings::offsets;
 // How many bytes the settings have in a record.
 const LENGTH: usize = RECORD_LENGTH - SETTINGS_AT;
 
-// The most that each of the settings' bytes can be.
+// The most that each of the settings' bytes can be, as far as that is all there is to ask of it.
 const MAXIMA: [u8; LENGTH] = [
     1, // 40 system
     2, // 41 source
     1, // 42 LCD
-    3, // 43 bias
-    4, // 44 commons
+    255, // 43 bias, asked for below
+    255, // 44 commons, likewise
     1, // 45 tone
-    4, // 46 its frequency
+    255, // 46 its frequency, likewise
     1, // 47 IRQ output
     7, // 48 rate
     1, // 49 time base
@@ -53,18 +50,30 @@ const MAXIMA: [u8; LENGTH] = [
     (clock::BASE_SIZE - 1) as u8, // 55 b
     (clock::WATCHDOG_SIZE - 1) as u8, // 56 w
     1, // 57 test
-    0, // 58 to 63 zero
-    0,
-    0,
-    0,
+    1, // 58 part
+    255, // 59 the scan's counter, likewise
+    255, // 60 the common scanned, likewise
+    0, // 61 to 63 zero
     0,
     0,
 ];
 
-// Whether each of a record's bytes 40 to 63 is in range. Apart from `part_in`, which is then small enough to be put into its
-// callers.
-pub fn in_range(bytes: &[u8]) -> bool
-    ensures { λ r. ⌜ r ≡ settingsInRange (now (bytes .entry)) ⌝ }
+// Whether the common that is scanned is one of those in force, and the scan's counter one of the part's.
+fn scan_fits(part: u8, commons: u8, counter: u8, common: u8) -> bool
+    ensures { λ r. ⌜ r ≡ scanFits part commons counter common ⌝ }
+{
+    if commons <= common {
+        return false;
+    }
+    if part == 1 {
+        return (counter as u16) < clock::GN_SCAN_SIZE;
+    }
+    (counter as u16) < clock::HT_SCAN_SIZE
+}
+
+// Whether a record's bytes 40 to 63 are right. Apart from `settings_from`, which is then small enough to be put into its callers.
+pub fn settings_right(bytes: &[u8]) -> bool
+    ensures { λ r. ⌜ r ≡ settingsHeld (now (bytes .entry)) ⌝ }
 {
     if bytes.len() != RECORD_LENGTH {
         return false;
@@ -77,30 +86,22 @@ pub fn in_range(bytes: &[u8]) -> bool
         }
         i += 1;
     }
-    true
-}
-
-// The selections, if each is one of its cases.
-fn selections_in(bytes: &[u8]) -> SelectionsRead
-    requires { ⌜ length (now bytes) ≡ recordLength ⌝ }
-    ensures { λ r. ⌜ r ≡ selectionsRead (now (bytes .entry)) ⌝ }
-{
-    let SourceRead::From(source) = codes::source_of(bytes[offsets::SOURCE]) else {
-        return SelectionsRead::NoSelections;
-    };
-    let BiasRead::Biased(bias) = codes::bias_of(bytes[offsets::BIAS]) else {
-        return SelectionsRead::NoSelections;
-    };
-    let CommonsRead::Has(commons) = codes::commons_of(bytes[offsets::COMMONS]) else {
-        return SelectionsRead::NoSelections;
-    };
-    let PitchRead::Sounds(pitch) = codes::pitch_of(bytes[offsets::PITCH]) else {
-        return SelectionsRead::NoSelections;
-    };
-    let IrqSourceRead::Of(irq) = codes::irq_source_of(bytes[offsets::IRQ_SOURCE]) else {
-        return SelectionsRead::NoSelections;
-    };
-    SelectionsRead::Selected(source, bias, commons, pitch, irq)
+    let commons = bytes[offsets::COMMONS];
+    if !scan_fits(
+        bytes[offsets::PART],
+        commons,
+        bytes[offsets::SCAN],
+        bytes[offsets::COMMON],
+    ) {
+        return false;
+    }
+    if !codes::is_bias(bytes[offsets::BIAS]) {
+        return false;
+    }
+    if !codes::is_commons(commons) {
+        return false;
+    }
+    codes::is_pitch(bytes[offsets::PITCH])
 }
 
 // Bytes 51 to 56.
@@ -130,33 +131,42 @@ fn counters_of(bytes: &[u8]) -> Counters
     }
 }
 
-// The settings that a record's bytes 40 to 63 say, if each selection is one of its cases.
-pub fn part_in(bytes: &[u8]) -> SettingsRead
-    ensures { λ r. ⌜ r ≡ settingsRead (now (bytes .entry)) ⌝ }
+// The part that byte 58 says.
+pub fn part_of(code: u8) -> Part
+    ensures { λ r. ⌜ r ≡ partOf code ⌝ }
+{
+    match code {
+        0 => Part::Ht,
+        1 => Part::Gn,
+        _ => Part::Ht,
+    }
+}
+
+// The settings that bytes 40 to 57 say, of bytes as many as a record's, with a scan and a part that were read before: with these two in
+// it, it would not be put into its callers.
+pub fn settings_from(bytes: &[u8], scan: Scan, part: Part) -> SettingsRead
+    ensures { λ r. ⌜ r ≡ settingsRead (now (bytes .entry)) scan part ⌝ }
 {
     if bytes.len() != RECORD_LENGTH {
         return SettingsRead::NoSettings;
     }
-    let SelectionsRead::Selected(source, bias, commons, pitch, irq) = selections_in(bytes) else {
-        return SettingsRead::NoSettings;
-    };
     SettingsRead::Set(Settings {
         system: System {
             on: bytes[offsets::SYSTEM] == 1,
-            source,
+            source: codes::source_of(bytes[offsets::SOURCE]),
         },
         lcd: Lcd {
             on: bytes[offsets::LCD] == 1,
-            bias,
-            commons,
+            bias: codes::bias_of(bytes[offsets::BIAS]),
+            commons: codes::commons_of(bytes[offsets::COMMONS]),
         },
         tone: Tone {
             on: bytes[offsets::TONE] == 1,
-            pitch,
+            pitch: codes::pitch_of(bytes[offsets::PITCH]),
         },
         irq: Irq {
             on: bytes[offsets::IRQ] == 1,
-            source: irq,
+            source: codes::irq_source_of(bytes[offsets::IRQ_SOURCE]),
         },
         base: Base {
             on: bytes[offsets::TIME_BASE] == 1,
@@ -164,5 +174,7 @@ pub fn part_in(bytes: &[u8]) -> SettingsRead
         },
         counters: counters_of(bytes),
         test: bytes[offsets::TEST] == 1,
+        scan,
+        part,
     })
 }

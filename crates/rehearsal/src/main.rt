@@ -79,7 +79,7 @@ fn show(chip: Chip) {
 
 fn main() {
     let zeros = [0u8; ADDRESSES];
-    let start = power::power_on(&zeros);
+    let start = power::power_on(0, &zeros);
     let nibbles = [1u8, 2, 3, 4, 5];
     let mut room = [0u8; 277];
     let stopped = rehearse(start.chip, 3, &nibbles, 40, 7, &mut room);

@@ -2,14 +2,16 @@
 use mathlib.Core.Bool.{true, false}
 use Rattle.clock.specs.declared.Source.{Source}
 use Rattle.clock.specs.declared.Source.the-variants.{Xtal, Rc, Ext}
+use Rattle.commands.specs.declared.Bias.{Bias}
+use Rattle.commands.specs.declared.Commons.{Commons}
 use Rattle.commands.specs.declared.Command.{Command}
 use Rattle.commands.specs.declared.Command.the-variants.{SysDis, SysEn, LcdOff, LcdOn, TimerDis, WdtDis, TimerEn, WdtEn, ToneOff, ToneOn, ClrTimer, ClrWdt, Xtal32k, Rc256k, Ext256k, BiasCom, Tone4k, Tone2k, IrqDis, IrqEn, Rate, Test, Normal}
 use Rattle.settings.specs.declared.Pitch.the-variants.{FourK, TwoK}
 use Rattle.settings.specs.declared.IrqSource.{IrqSource}
 use Rattle.settings.specs.declared.IrqSource.the-variants.{Neither, TimeBase, Flag}
 use Rattle.settings.specs.declared.Settings.{Settings}
-use Rattle.clock.specs.Ticks.{timerCleared, watchdogCleared}
-use Rattle.settings.specs.Settings.{systemTo, sourceTo, lcdTo, displayTo, toneTo, pitchTo, irqTo, irqSourceTo, timeBaseTo, rateTo, countersTo, timerTo, flagTo, testTo}
+use Rattle.clock.specs.Ticks.{scanStart, timerCleared, watchdogCleared}
+use Rattle.settings.specs.Settings.{systemTo, sourceTo, lcdTo, displayTo, toneTo, pitchTo, irqTo, irqSourceTo, timeBaseTo, rateTo, countersTo, timerTo, scanTo, flagTo, testTo}
 
 -- SYS DIS does nothing at EXT; otherwise the system and the LCD go off.
 abbrev pub systemOff : Source → Settings → Settings
@@ -39,6 +41,10 @@ watchdogOff s = timeBaseTo false (irqSourceTo (withoutFlag (s .irq .source)) s)
 abbrev pub irqOff : Settings → Settings
 irqOff s = irqTo false (countersTo (flagTo false (s .counters)) s)
 
+-- A command that sets bias and commons has the scan begin anew with the first common, also where the commons stay as they were.
+abbrev pub glassTo : Bias → Commons → Settings → Settings
+glassTo bias commons s = displayTo bias commons (scanTo scanStart s)
+
 -- What each command does to the settings.
 unfoldable pub effect : Command → Settings → Settings
 effect SysDis s = systemOff (s .system .source) s
@@ -56,7 +62,7 @@ effect ClrWdt s = timerTo (watchdogCleared (s .counters .timer)) s
 effect Xtal32k s = sourceTo Xtal s
 effect Rc256k s = sourceTo Rc s
 effect Ext256k s = sourceTo Ext s
-effect (BiasCom bias commons) s = displayTo bias commons s
+effect (BiasCom bias commons) s = glassTo bias commons s
 effect Tone4k s = pitchTo FourK s
 effect Tone2k s = pitchTo TwoK s
 effect IrqDis s = irqOff s

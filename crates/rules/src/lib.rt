@@ -1,12 +1,13 @@
 // What a command does to the settings, and the settings at power-on. All goes by value. Assumes nothing.
 ghost use mathlib.Core.Path.{_≡_};
-ghost use Rattle.rules.specs.Effects.{withoutTimeBase, withoutFlag, systemOff, timerOff, watchdogOff, irqOff, effect};
+ghost use Rattle.rules.specs.Effects.{withoutTimeBase, withoutFlag, systemOff, timerOff, watchdogOff, irqOff, glassTo, effect};
 ghost use Rattle.settings.specs.Settings.{powerOn};
-ghost use Rattle.settings.specs.Settings.{systemTo, sourceTo, lcdTo, displayTo, toneTo, pitchTo, irqTo, irqSourceTo, timeBaseTo, rateTo, timerTo, testTo};
+ghost use Rattle.settings.specs.Settings.{systemTo, sourceTo, lcdTo, displayTo, toneTo, pitchTo, irqTo, irqSourceTo, timeBaseTo, rateTo, timerTo, scanTo, testTo};
 use clock::BaseCounter;
 use clock::Counters;
 use clock::Divider;
 use clock::Prescaler;
+use clock::Scan;
 use clock::Source;
 use clock::Timer;
 use clock::Toner;
@@ -14,6 +15,7 @@ use clock::Watchdog;
 use commands::Bias;
 use commands::Command;
 use commands::Commons;
+use ground::Part;
 use settings::Base;
 use settings::Irq;
 use settings::IrqSource;
@@ -152,6 +154,14 @@ fn timer_to(settings: Settings, timer: Timer) -> Settings
     next
 }
 
+fn scan_to(settings: Settings, scan: Scan) -> Settings
+    ensures { λ r. ⌜ r ≡ scanTo scan settings ⌝ }
+{
+    let mut next = settings;
+    next.scan = scan;
+    next
+}
+
 fn test_to(settings: Settings, test: bool) -> Settings
     ensures { λ r. ⌜ r ≡ testTo test settings ⌝ }
 {
@@ -200,6 +210,17 @@ fn irq_off(settings: Settings) -> Settings
     irq_to(timer_to(settings, timer), false)
 }
 
+// A command that sets bias and commons: the scan begins anew.
+fn glass_to(settings: Settings, bias: Bias, commons: Commons) -> Settings
+    ensures { λ r. ⌜ r ≡ glassTo bias commons settings ⌝ }
+{
+    let scan = Scan {
+        count: 0,
+        common: 0,
+    };
+    display_to(scan_to(settings, scan), bias, commons)
+}
+
 // The settings as a command leaves them.
 pub fn obeyed(settings: Settings, command: Command) -> Settings
     ensures { λ r. ⌜ r ≡ effect command settings ⌝ }
@@ -220,7 +241,7 @@ pub fn obeyed(settings: Settings, command: Command) -> Settings
         Command::Xtal32k => source_to(settings, Source::Xtal),
         Command::Rc256k => source_to(settings, Source::Rc),
         Command::Ext256k => source_to(settings, Source::Ext),
-        Command::BiasCom(bias, commons) => display_to(settings, bias, commons),
+        Command::BiasCom(bias, commons) => glass_to(settings, bias, commons),
         Command::Tone4k => pitch_to(settings, Pitch::FourK),
         Command::Tone2k => pitch_to(settings, Pitch::TwoK),
         Command::IrqDis => irq_off(settings),
@@ -231,9 +252,9 @@ pub fn obeyed(settings: Settings, command: Command) -> Settings
     }
 }
 
-// The settings at power-on.
-pub fn at_power_on() -> Settings
-    ensures { λ r. ⌜ r ≡ powerOn ⌝ }
+// The settings of a part at power-on.
+pub fn at_power_on(part: Part) -> Settings
+    ensures { λ r. ⌜ r ≡ powerOn part ⌝ }
 {
     let timer = Timer {
         divider: Divider { count: 0 },
@@ -268,5 +289,10 @@ pub fn at_power_on() -> Settings
             timer,
         },
         test: false,
+        scan: Scan {
+            count: 0,
+            common: 0,
+        },
+        part,
     }
 }

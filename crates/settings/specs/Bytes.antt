@@ -2,26 +2,31 @@
 use Prim.Native.Nat.{ℕ, _+_}
 use mathlib.Core.Bool.{Bool, cond, _&&_}
 use mathlib.Core.List.{List, [], _∷_, _++_, map}
-use lib.Dec.{eqb}
+use lib.Dec.{eqb, ltb}
 use lib.ListN.{length, drop}
 use Rattle.ground.specs.Sizes.{addresses, recordLength}
 use Rattle.ground.specs.Ranges.{upTo}
 use Rattle.ground.specs.Outcomes.{leftFrom, writtenAs}
-use Rattle.clock.specs.Sizes.{prescalerSize, tonerSize, dividerSize, baseSize, watchdogSize}
+use Rattle.ground.specs.Parts.{partNumber, parts, partOf}
+use Rattle.ground.specs.Written.{byte}
+use Rattle.ground.specs.declared.Part.{Part}
+use Rattle.ground.specs.declared.Part.the-variants.{Ht}
+use Rattle.clock.specs.Sizes.{prescalerSize, tonerSize, dividerSize, baseSize, watchdogSize, scanSize}
 use Rattle.clock.specs.Numbers.{sourceNumber}
+use Rattle.clock.specs.declared.Source.the-variants.{Ext}
 use Rattle.clock.specs.declared.Counters.{Counters}
+use Rattle.clock.specs.declared.Scan.{Scan}
 use Rattle.commands.specs.Numbers.{biasNumber, commonsNumber}
+use Rattle.settings.specs.declared.IrqSource.the-variants.{Flag}
 use Rattle.settings.specs.declared.Settings.{Settings}
-use Rattle.settings.specs.declared.SelectionsRead.{SelectionsRead}
-use Rattle.settings.specs.declared.SelectionsRead.the-variants.{Selected, NoSelections}
 use Rattle.settings.specs.declared.SettingsRead.{SettingsRead}
 use Rattle.settings.specs.declared.SettingsRead.the-variants.{Set, NoSettings}
 use Rattle.settings.specs.Numbers.{pitchNumber, irqSourceNumber}
-use Rattle.settings.specs.Settings.{systemTo, sourceTo, lcdTo, displayTo, toneTo, pitchTo, irqTo, irqSourceTo, timeBaseTo, rateTo, prescalerTo, tonerTo, dividerTo, baseTo, watchdogTo, flagTo, countersTo, testTo, powerOn}
+use Rattle.settings.specs.Settings.{systemTo, sourceTo, lcdTo, displayTo, toneTo, pitchTo, irqTo, irqSourceTo, timeBaseTo, rateTo, prescalerTo, tonerTo, dividerTo, baseTo, watchdogTo, flagTo, scanCountTo, commonTo, countersTo, testTo, scanTo, partTo, powerOn}
 use Rattle.settings.specs.Selections.{sources, biases, commonses, pitches, irqSources}
-use Rattle.settings.specs.Fields.{Field, switch, count, selection, spare, bytesOf, maxima, allKnown, readFrom}
+use Rattle.settings.specs.Fields.{Field, switch, count, selection, numbered, spare, bytesOf, maxima, allKnown, readFrom}
 
--- Where a record has the settings' bytes, after the memory and the frame's eight, and the counters among them.
+-- Where a record has the settings' bytes, after the memory and the frame's eight, and where among them the counters begin.
 abbrev pub settingsAt : ℕ
 settingsAt = addresses + 8
 
@@ -31,7 +36,7 @@ countersAt = settingsAt + 11
 -- ---- the list
 
 -- Bytes 51 to 56.
-abbrev pub counterFields : List (Field Counters)
+abbrev counterFields : List (Field Counters)
 counterFields =
     switch (λ c. c .timer .watchdog .flag) flagTo
     ∷ count prescalerSize (λ c. c .prescaler .count) prescalerTo
@@ -51,11 +56,11 @@ ofCounters field =
       readInto = λ n s. countersTo (field .readInto n (s .counters)) s;
     }
 
--- Bytes 40 to 63.
-abbrev pub settingsFields : List (Field Settings)
-settingsFields =
+-- Bytes 40 to 50.
+abbrev pub switchFields : List (Field Settings)
+switchFields =
     switch (λ s. s .system .on) systemTo
-    ∷ selection sourceNumber sources (λ s. s .system .source) sourceTo
+    ∷ numbered sourceNumber sources Ext (λ s. s .system .source) sourceTo
     ∷ switch (λ s. s .lcd .on) lcdTo
     ∷ selection biasNumber biases (λ s. s .lcd .bias) (λ bias s. displayTo bias (s .lcd .commons) s)
     ∷ selection commonsNumber commonses (λ s. s .lcd .commons) (λ commons s. displayTo (s .lcd .bias) commons s)
@@ -64,24 +69,38 @@ settingsFields =
     ∷ switch (λ s. s .irq .on) irqTo
     ∷ count 8 (λ s. s .base .rate) rateTo
     ∷ switch (λ s. s .base .on) timeBaseTo
-    ∷ selection irqSourceNumber irqSources (λ s. s .irq .source) irqSourceTo
-    ∷ map ofCounters counterFields
-    ++ (switch (λ s. s .test) testTo ∷ spare ∷ spare ∷ spare ∷ spare ∷ spare ∷ spare ∷ [])
+    ∷ numbered irqSourceNumber irqSources Flag (λ s. s .irq .source) irqSourceTo
+    ∷ []
+
+-- Bytes 51 to 63: those that ticks change, with the test mark and the part between them, and three that are not used. What the scan can be
+-- depends on the part and the commons: `scanRight` has it.
+abbrev pub tickFields : List (Field Settings)
+tickFields =
+    map ofCounters counterFields
+    ++ (switch (λ s. s .test) testTo
+    ∷ numbered partNumber parts Ht (λ s. s .part) partTo
+    ∷ count 256 (λ s. s .scan .count) scanCountTo
+    ∷ count 256 (λ s. s .scan .common) commonTo
+    ∷ spare ∷ spare ∷ spare ∷ [])
+
+-- Bytes 40 to 63.
+abbrev pub settingsFields : List (Field Settings)
+settingsFields = switchFields ++ tickFields
 
 -- ---- the bytes of given settings
 
 abbrev pub settingsBytes : Settings → List ℕ
 settingsBytes = bytesOf settingsFields
 
-abbrev pub counterBytes : Counters → List ℕ
-counterBytes = bytesOf counterFields
+abbrev pub tickBytes : Settings → List ℕ
+tickBytes = bytesOf tickFields
 
--- Over a buffer that holds a record, all of them or the counters' alone; one that is too short stays as it was.
+-- Over a buffer that holds a record, all of them or those from the counters on; one that is too short stays as it was.
 unfoldable pub settingsOver : Settings → List ℕ → List ℕ
 settingsOver settings buffer = leftFrom settingsAt (writtenAs 24 buffer) (settingsBytes settings) buffer
 
-unfoldable pub countersOver : Counters → List ℕ → List ℕ
-countersOver counters buffer = leftFrom countersAt (writtenAs 6 buffer) (counterBytes counters) buffer
+unfoldable pub countersOver : Settings → List ℕ → List ℕ
+countersOver settings buffer = leftFrom countersAt (writtenAs 13 buffer) (tickBytes settings) buffer
 
 -- ---- the settings that bytes say
 
@@ -89,31 +108,35 @@ countersOver counters buffer = leftFrom countersAt (writtenAs 6 buffer) (counter
 abbrev pub settingsMaxima : List ℕ
 settingsMaxima = maxima settingsFields
 
+-- A scan, by the bytes of part, commons, counter and common: the common that is scanned is one of those in force, and the counter below
+-- its size in the part.
+unfoldable pub scanFits : ℕ → ℕ → ℕ → ℕ → Bool
+scanFits part commons counter common = ltb common commons && ltb counter (scanSize (partOf part))
+
 module _ (b : List ℕ) where
-  -- Each selection is one of its cases.
+  -- Each selection that a range alone does not tell is one of its cases: bytes 43, 44 and 46.
   abbrev pub selectionsKnown : Bool
   selectionsKnown = allKnown b settingsAt settingsFields
 
-  -- Each byte is in range, and each selection one of its cases.
+  abbrev pub scanRight : Bool
+  scanRight = scanFits (byte b 58) (byte b 44) (byte b 59) (byte b 60)
+
+  -- Each byte is in range, the scan right, and each selection one of its cases.
   unfoldable pub settingsRight : Bool
-  settingsRight = upTo (drop settingsAt b) settingsMaxima && selectionsKnown
+  settingsRight = upTo (drop settingsAt b) settingsMaxima && scanRight && selectionsKnown
 
-  -- The ranges by themselves, in a list that is as long as a record.
-  abbrev pub settingsInRange : Bool
-  settingsInRange = eqb (length b) recordLength && upTo (drop settingsAt b) settingsMaxima
+  -- The same of a list that has to be as long as a record.
+  abbrev pub settingsHeld : Bool
+  settingsHeld = eqb (length b) recordLength && settingsRight
 
-  -- Each byte in turn changes what it stands for, so that nothing is left of where they begin.
+  -- Each byte in turn changes what it stands for, so that of right bytes nothing is left of where they begin.
   abbrev pub settingsOf : Settings
-  settingsOf = readFrom b settingsAt settingsFields powerOn
+  settingsOf = readFrom b settingsAt settingsFields (powerOn Ht)
 
-  -- The selections by themselves.
-  unfoldable pub selectionsRead : SelectionsRead
-  selectionsRead =
-      cond selectionsKnown
-      (Selected (settingsOf .system .source) (settingsOf .lcd .bias) (settingsOf .lcd .commons) (settingsOf .tone .pitch)
-      (settingsOf .irq .source))
-      NoSelections
+  -- The settings in a list that is as long as a record, with a scan and a part that were read before.
+  unfoldable pub settingsRead : Scan → Part → SettingsRead
+  settingsRead scan part = cond (eqb (length b) recordLength) (Set (partTo part (scanTo scan settingsOf))) NoSettings
 
-  -- The settings in a list that is as long as a record and has known selections there.
-  unfoldable pub settingsRead : SettingsRead
-  settingsRead = cond (eqb (length b) recordLength && selectionsKnown) (Set settingsOf) NoSettings
+  -- The scan that the bytes say.
+  abbrev pub scanOf : Scan
+  scanOf = record { count = byte b 59; common = byte b 60 }

@@ -22,7 +22,7 @@ module _ {A : Type 0} where
   abbrev pub switch : (A → Bool) → (Bool → A → A) → Field A
   switch get to = record { written = λ a. bitNumber (get a); most = 1; known = λ n. true; readInto = λ n. to (eqb n 1) }
 
-  -- A count is any number below its size.
+  -- A count is any number below its size; where that depends on other bytes, it is 256 here, and they are asked for together.
   abbrev pub count : ℕ → (A → ℕ) → (ℕ → A → A) → Field A
   count size get to = record { written = get; most = size - 1; known = λ n. true; readInto = to }
 
@@ -35,14 +35,25 @@ module _ {X : Type 0} (number : X → ℕ) where
   largest [] = 0
   largest (first ∷ cases) = max (number first) (largest cases)
 
-  -- A selection is the number of one of its cases.
+  -- A selection is the number of one of its cases, and any other byte is not known.
   abbrev pub selection : {A : Type 0} → List X → (A → X) → (X → A → A) → Field A
   selection cases get to =
       record {
         written = λ a. number (get a);
-        most = largest cases;
+        most = 255;
         known = isCode number cases;
         readInto = λ n a. to (caseOf number cases (get a) n) a;
+      }
+
+  -- One whose cases have the numbers from 0 on without a gap is known by its most alone; a higher code would be read as the case that is
+  -- given with them.
+  abbrev pub numbered : {A : Type 0} → List X → X → (A → X) → (X → A → A) → Field A
+  numbered cases other get to =
+      record {
+        written = λ a. number (get a);
+        most = largest cases;
+        known = λ n. true;
+        readInto = λ n. to (caseOf number cases other n);
       }
 
 -- ---- what follows from a list of them

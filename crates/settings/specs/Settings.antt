@@ -1,11 +1,14 @@
 -- RULES "Commands", its power-on; and the settings with one of them changed and all others kept. Assumes nothing.
 use Prim.Native.Nat.{ℕ}
 use mathlib.Core.Bool.{Bool, false}
+use Rattle.ground.specs.declared.Part.{Part}
 use Rattle.clock.specs.declared.Source.{Source}
 use Rattle.clock.specs.declared.Source.the-variants.{Rc}
 use Rattle.clock.specs.declared.Watchdog.{Watchdog}
 use Rattle.clock.specs.declared.Timer.{Timer}
+use Rattle.clock.specs.declared.Scan.{Scan}
 use Rattle.clock.specs.declared.Counters.{Counters}
+use Rattle.clock.specs.Ticks.{scanStart}
 use Rattle.commands.specs.declared.Bias.{Bias}
 use Rattle.commands.specs.declared.Bias.the-variants.{Half}
 use Rattle.commands.specs.declared.Commons.{Commons}
@@ -22,19 +25,19 @@ use Rattle.settings.specs.declared.Base.{Base}
 use Rattle.settings.specs.declared.Settings.{Settings}
 
 abbrev withSystem : System → Settings → Settings
-withSystem x s = record { system = x; lcd = s .lcd; tone = s .tone; irq = s .irq; base = s .base; counters = s .counters; test = s .test }
+withSystem x s = record { system = x; lcd = s .lcd; tone = s .tone; irq = s .irq; base = s .base; counters = s .counters; test = s .test; scan = s .scan; part = s .part }
 
 abbrev withLcd : Lcd → Settings → Settings
-withLcd x s = record { system = s .system; lcd = x; tone = s .tone; irq = s .irq; base = s .base; counters = s .counters; test = s .test }
+withLcd x s = record { system = s .system; lcd = x; tone = s .tone; irq = s .irq; base = s .base; counters = s .counters; test = s .test; scan = s .scan; part = s .part }
 
 abbrev withTone : Tone → Settings → Settings
-withTone x s = record { system = s .system; lcd = s .lcd; tone = x; irq = s .irq; base = s .base; counters = s .counters; test = s .test }
+withTone x s = record { system = s .system; lcd = s .lcd; tone = x; irq = s .irq; base = s .base; counters = s .counters; test = s .test; scan = s .scan; part = s .part }
 
 abbrev withIrq : Irq → Settings → Settings
-withIrq x s = record { system = s .system; lcd = s .lcd; tone = s .tone; irq = x; base = s .base; counters = s .counters; test = s .test }
+withIrq x s = record { system = s .system; lcd = s .lcd; tone = s .tone; irq = x; base = s .base; counters = s .counters; test = s .test; scan = s .scan; part = s .part }
 
 abbrev withBase : Base → Settings → Settings
-withBase x s = record { system = s .system; lcd = s .lcd; tone = s .tone; irq = s .irq; base = x; counters = s .counters; test = s .test }
+withBase x s = record { system = s .system; lcd = s .lcd; tone = s .tone; irq = s .irq; base = x; counters = s .counters; test = s .test; scan = s .scan; part = s .part }
 
 -- The system switch, and the clock's source.
 abbrev pub systemTo : Bool → Settings → Settings
@@ -73,7 +76,7 @@ rateTo rate s = withBase (record { on = s .base .on; rate = rate }) s
 
 -- The counters, all of them or only those that run while the time base is on.
 abbrev pub countersTo : Counters → Settings → Settings
-countersTo x s = record { system = s .system; lcd = s .lcd; tone = s .tone; irq = s .irq; base = s .base; counters = x; test = s .test }
+countersTo x s = record { system = s .system; lcd = s .lcd; tone = s .tone; irq = s .irq; base = s .base; counters = x; test = s .test; scan = s .scan; part = s .part }
 
 abbrev pub timerTo : Timer → Settings → Settings
 timerTo timer s = countersTo (record { prescaler = s .counters .prescaler; toner = s .counters .toner; timer = timer }) s
@@ -105,11 +108,26 @@ flagTo flag c = withWatchdog (record { count = c .timer .watchdog .count; flag =
 
 -- The test mark.
 abbrev pub testTo : Bool → Settings → Settings
-testTo x s = record { system = s .system; lcd = s .lcd; tone = s .tone; irq = s .irq; base = s .base; counters = s .counters; test = x }
+testTo x s = record { system = s .system; lcd = s .lcd; tone = s .tone; irq = s .irq; base = s .base; counters = s .counters; test = x; scan = s .scan; part = s .part }
 
--- RULES "Commands", power-on: all switches off, RC, F128, no IRQ source, all counters 0; the house adds bias 1/2, 2 commons and 4 kHz.
-abbrev pub powerOn : Settings
-powerOn =
+-- The scan, and either of its two.
+abbrev pub scanTo : Scan → Settings → Settings
+scanTo x s =
+    record { system = s .system; lcd = s .lcd; tone = s .tone; irq = s .irq; base = s .base; counters = s .counters; test = s .test; scan = x; part = s .part }
+
+abbrev pub scanCountTo : ℕ → Settings → Settings
+scanCountTo n s = scanTo (record { count = n; common = s .scan .common }) s
+
+abbrev pub commonTo : ℕ → Settings → Settings
+commonTo n s = scanTo (record { count = s .scan .count; common = n }) s
+
+-- The part, which is set at power-on and where a record is read.
+abbrev pub partTo : Part → Settings → Settings
+partTo x s = record { system = s .system; lcd = s .lcd; tone = s .tone; irq = s .irq; base = s .base; counters = s .counters; test = s .test; scan = s .scan; part = x }
+
+-- RULES "Commands", power-on of a part: all switches off, RC, F128, no IRQ source, all counters 0; the house adds bias 1/2, 2 commons and 4 kHz.
+abbrev pub powerOn : Part → Settings
+powerOn part =
     record {
       system = record { on = false; source = Rc };
       lcd = record { on = false; bias = Half; commons = Two };
@@ -123,4 +141,6 @@ powerOn =
             timer = record { divider = record { count = 0 }; base = record { count = 0 }; watchdog = record { count = 0; flag = false } };
           };
       test = false;
+      scan = scanStart;
+      part = part;
     }

@@ -1,5 +1,5 @@
-// The settings: the switches and selections that commands set, with the counters; and all of them as bytes of a state record,
-// 40 to 63. Assumes nothing.
+// The settings: the switches and selections that commands set, with the counters, and the part that they are of; and all of them as
+// bytes of a state record, 40 to 63. Assumes nothing.
 ghost use mathlib.Core.Path.{_≡_};
 ghost use Rattle.ground.specs.Outcomes.{writtenAs};
 ghost use Rattle.settings.specs.Numbers.{pitchNumber, irqSourceNumber};
@@ -8,14 +8,16 @@ ghost use Rattle.settings.specs.Bytes.{settingsOver, countersOver};
 pub mod offsets; // offsets.rt: where each byte stands
 
 use clock::Counters;
+use clock::Scan;
 use clock::Source;
 use commands::Bias;
 use commands::Commons;
 use ground::Outcome;
+use ground::Part;
 use ground::RECORD_LENGTH;
 use ground::Refusal;
 
-// Where a record has the settings' bytes, and the counters among them.
+// Where a record has the settings' bytes, and where among them the counters begin.
 pub const SETTINGS_AT: usize = ground::ADDRESSES + 8;
 
 pub const COUNTERS_AT: usize = SETTINGS_AT + 11;
@@ -62,7 +64,7 @@ pub struct Base {
     pub rate: u8,
 }
 
-// All that commands and ticks can change.
+// All that commands and ticks can change, and the part, which they cannot.
 pub struct Settings {
     pub system: System,
     pub lcd: Lcd,
@@ -71,6 +73,8 @@ pub struct Settings {
     pub base: Base,
     pub counters: Counters,
     pub test: bool,
+    pub scan: Scan,
+    pub part: Part,
 }
 
 impl Pitch {
@@ -98,62 +102,39 @@ impl IrqSource {
     }
 }
 
-// What the coded byte of each selection reads to.
-pub enum SourceRead {
-    From(Source),
-    NoSource,
-}
-
-pub enum BiasRead {
-    Biased(Bias),
-    NoBias,
-}
-
-pub enum CommonsRead {
-    Has(Commons),
-    NoCommons,
-}
-
-pub enum PitchRead {
-    Sounds(Pitch),
-    NoPitch,
-}
-
-pub enum IrqSourceRead {
-    Of(IrqSource),
-    NoIrqSource,
-}
-
-// What they read to together.
-pub enum SelectionsRead {
-    Selected(Source, Bias, Commons, Pitch, IrqSource),
-    NoSelections,
-}
-
 // What the settings' bytes read to.
 pub enum SettingsRead {
     Set(Settings),
     NoSettings,
 }
 
-// Of a record that a buffer holds, the counters' bytes alone, 51 to 56: for a chip of which nothing else has changed.
-pub fn write_counters(counters: Counters, out: &mut [u8]) -> Outcome
-    ensures { λ r. ⌜ (r ≡ writtenAs 6 (now (out .entry))) × (now (out .exit) ≡ countersOver counters (now (out .entry))) ⌝ }
+// Of a record that a buffer holds, the settings' bytes from the counters on, 51 to 63: for a chip of which no other byte has changed.
+pub fn write_counters(settings: Settings, out: &mut [u8]) -> Outcome
+    ensures { λ r. ⌜ (r ≡ writtenAs 13 (now (out .entry))) × (now (out .exit) ≡ countersOver settings (now (out .entry))) ⌝ }
 {
     if out.len() < RECORD_LENGTH {
         return Outcome::Refused(Refusal::OutputShort);
     }
+    let counters = settings.counters;
+    let part = settings.part;
     out[offsets::FLAG] = counters.timer.watchdog.flag as u8;
     out[offsets::P] = counters.prescaler.count;
     out[offsets::Q] = counters.toner.count;
     out[offsets::D] = counters.timer.divider.count;
     out[offsets::B] = counters.timer.base.count;
     out[offsets::W] = counters.timer.watchdog.count;
-    Outcome::Written(6)
+    out[offsets::TEST] = settings.test as u8;
+    out[offsets::PART] = part.number();
+    out[offsets::SCAN] = settings.scan.count;
+    out[offsets::COMMON] = settings.scan.common;
+    out[offsets::SPARE_1] = 0;
+    out[offsets::SPARE_2] = 0;
+    out[offsets::SPARE_3] = 0;
+    Outcome::Written(13)
 }
 
 // Of a record that a buffer holds, the settings' bytes alone, 40 to 63.
-pub fn write_part(settings: Settings, out: &mut [u8]) -> Outcome
+pub fn write_settings(settings: Settings, out: &mut [u8]) -> Outcome
     ensures { λ r. ⌜ (r ≡ writtenAs 24 (now (out .entry))) × (now (out .exit) ≡ settingsOver settings (now (out .entry))) ⌝ }
 {
     if out.len() < RECORD_LENGTH {
@@ -168,7 +149,6 @@ pub fn write_part(settings: Settings, out: &mut [u8]) -> Outcome
     let pitch = tone.pitch;
     let irq = settings.irq;
     let irq_source = irq.source;
-    let counters = settings.counters;
     out[offsets::SYSTEM] = system.on as u8;
     out[offsets::SOURCE] = source.number();
     out[offsets::LCD] = lcd.on as u8;
@@ -180,13 +160,6 @@ pub fn write_part(settings: Settings, out: &mut [u8]) -> Outcome
     out[offsets::RATE] = settings.base.rate;
     out[offsets::TIME_BASE] = settings.base.on as u8;
     out[offsets::IRQ_SOURCE] = irq_source.number();
-    write_counters(counters, out);
-    out[offsets::TEST] = settings.test as u8;
-    out[offsets::SPARE_1] = 0;
-    out[offsets::SPARE_2] = 0;
-    out[offsets::SPARE_3] = 0;
-    out[offsets::SPARE_4] = 0;
-    out[offsets::SPARE_5] = 0;
-    out[offsets::SPARE_6] = 0;
+    write_counters(settings, out);
     Outcome::Written(24)
 }

@@ -36,17 +36,17 @@ pub const B: usize = COUNTERS_AT + 4;
 
 pub const W: usize = COUNTERS_AT + 5;
 
-pub const TEST: usize = SETTINGS_AT + 17;
+pub const TEST: usize = COUNTERS_AT + 6;
+
+pub const PART: usize = COUNTERS_AT + 7;
+
+pub const SCAN: usize = COUNTERS_AT + 8;
+
+pub const COMMON: usize = COUNTERS_AT + 9;
 
 // Bytes that are not used, to the end of the record.
-pub const SPARE_1: usize = SETTINGS_AT + 18;
+pub const SPARE_1: usize = COUNTERS_AT + 10;
 
-pub const SPARE_2: usize = SETTINGS_AT + 19;
+pub const SPARE_2: usize = COUNTERS_AT + 11;
 
-pub const SPARE_3: usize = SETTINGS_AT + 20;
-
-pub const SPARE_4: usize = SETTINGS_AT + 21;
-
-pub const SPARE_5: usize = SETTINGS_AT + 22;
-
-pub const SPARE_6: usize = SETTINGS_AT + 23;
+pub const SPARE_3: usize = COUNTERS_AT + 12;

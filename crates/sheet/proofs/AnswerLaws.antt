@@ -5,6 +5,7 @@ use Prim.Native.Nat.{ℕ, _*_, _≤_}
 use native.Mathlib.Omega.{arith}
 use lib.Dec.{ltb}
 use lib.ListN.{getD}
+use Rattle.ground.specs.declared.Part.{Part}
 use Rattle.commands.specs.Commands.{codeMeaning}
 use Rattle.commands.specs.declared.Decoded.{Decoded}
 use Rattle.commands.specs.declared.Decoded.the-variants.{Undefined, Means}
@@ -23,15 +24,15 @@ decoded-low : (decoded : Decoded) (code : ℕ) → answerNumber (decodedAnswer d
 decoded-low Undefined code = omega arith
 decoded-low (Means command) code = omega arith
 
-told-low : (upshot : Upshot) → Own upshot → answerNumber (told upshot) ≤ 11
-told-low (Answered answer) own = own .1
-told-low (Nibble at nibble) own = omega arith
-told-low (Code code) own = decoded-low (codeMeaning (2 * code)) code
+told-low : (part : Part) (upshot : Upshot) → Own upshot → answerNumber (told part upshot) ≤ 11
+told-low part (Answered answer) own = own .1
+told-low part (Nibble at nibble) own = omega arith
+told-low part (Code code) own = decoded-low (codeMeaning part (2 * code)) code
 
 stepped-told : (c : Chip) (sample : ℕ) → ltb 15 sample ≡ false → answerNumber (stepped c sample .answer) ≤ 11
 unfolding stepped steppedTo moved framedBy
 stepped-told c sample low =
-    rw low (told-low (framedBy (c .port) (levels sample) .upshot)
+    rw low (told-low (c .settings .part) (framedBy (c .port) (levels sample) .upshot)
     (frame-own (edge (c .port .levels) (levels sample)) (getD (c .port .memory) (address (c .port .phase)) 0) (c .port .phase) (c .port .line)))
 
 -- so what a step returns tells a sample that is taken from one that is refused

@@ -84,12 +84,13 @@ read-leaves first count out =
     ladder-leaves stream stream out (readRefusals first count (length out)) (length stream)
     (λ some good inside. fits-leaves stream out) (read-small first count (length out))
 
-pub commands-leave : (codes out : List ℕ) → BufferLeft (commandStream codes) out (commandsReturns codes out) (commandsBytes codes out)
+pub commands-leave : (part : ℕ) (codes out : List ℕ)
+    → BufferLeft (commandStream codes) out (commandsReturns part codes out) (commandsBytes part codes out)
 unfolding commandsReturns commandsBytes commandAnswer
-commands-leave codes out =
+commands-leave part codes out =
     let stream = commandStream codes in
-    ladder-leaves stream stream out (commandRefusals codes (length out)) (length stream)
-    (λ some few clean. fits-leaves stream out) (commands-small codes (length out))
+    ladder-leaves stream stream out (commandRefusals part codes (length out)) (length stream)
+    (λ known some few clean. fits-leaves stream out) (commands-small part codes (length out))
 
 pub decode-leaves : (noted out : List ℕ) → BufferLeft (decoded noted) out (decodeReturns noted out) (decodeBytes noted out)
 unfolding decodeReturns decodeBytes decodeAnswer
@@ -98,10 +99,11 @@ decode-leaves noted out =
     ladder-leaves stream stream out (decodeRefusals noted (length out)) (length stream)
     (λ counted clean. fits-leaves stream out) (decode-small noted (length out))
 
-pub power-on-leaves : (memory bytes : List ℕ) → BufferLeft (freshRecord memory) bytes (powerOnReturns memory bytes) (powerOnBytes memory bytes)
+pub power-on-leaves : (part : ℕ) (memory bytes : List ℕ)
+    → BufferLeft (freshRecord part memory) bytes (powerOnReturns part memory bytes) (powerOnBytes part memory bytes)
 unfolding powerOnReturns powerOnBytes powerOnAnswer
-power-on-leaves memory bytes =
-    ladder-leaves (freshRecord memory) (powerOnRecord memory) bytes (recordRefusals memory (length bytes)) 64
-    (λ long clean fits.
-    success-leaves (freshRecord memory) (powerOnRecord memory) bytes 64 (sym (power-on-size memory)) (ltb-false (length bytes) 64 fits)
-    (fresh memory long clean)) (power-on-small memory (length bytes))
+power-on-leaves part memory bytes =
+    ladder-leaves (freshRecord part memory) (powerOnRecord part memory) bytes (recordRefusals part memory (length bytes)) 64
+    (λ known long clean fits.
+    success-leaves (freshRecord part memory) (powerOnRecord part memory) bytes 64 (sym (power-on-size part memory))
+    (ltb-false (length bytes) 64 fits) (fresh part memory known long clean)) (power-on-small part memory (length bytes))

@@ -7,6 +7,7 @@ use Prim.Native.Nat.{ℕ, _+_, _<_}
 use native.Mathlib.Omega.{arith}
 use lib.Dec.{eqb}
 use lib.ListN.{take, drop}
+use Rattle.ground.specs.Parts.{partNumber}
 use Rattle.ground.proofs.BitsLaws.{bitNumber-back}
 use Rattle.ground.proofs.WrittenLaws.{gather, gathered}
 use Rattle.clock.specs.declared.Source.{Source}
@@ -21,7 +22,7 @@ use Rattle.state.specs.Record.{portBytes, recordValid, recordOf, chipOf}
 use Rattle.state.proofs.BytesLaws.{port-bytes, record-parts}
 use Rattle.state.proofs.ChipLaws.{valid-chip}
 use Rattle.state.proofs.TripLaws.{valid-has, trip}
-use Rattle.sheet.specs.Bytes.{runs}
+use Rattle.sheet.specs.Bytes.{byte, runs}
 
 abbrev pub spelt : List ℕ → Settings → List ℕ
 spelt b s = gather 40 0 b ++ settingsBytes s
@@ -45,6 +46,10 @@ module _ (b : List ℕ) (valid : recordValid b ≡ true) where
   pub settings-said : drop 40 b ≡ settingsBytes (chipOf b .settings)
   unfolding chipOf
   settings-said = ap (drop 40) bytes-spelt
+
+  -- byte 58 is the number of the part
+  pub part-said : partNumber (settingsOf b .part) ≡ byte b 58
+  part-said = ap (λ (l : List ℕ). byte l 58) (sym bytes-spelt)
 
   -- eight unfinished bits are the most
   pub bits-small : valueIn b < 256

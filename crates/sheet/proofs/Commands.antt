@@ -2,11 +2,14 @@
 use mathlib.Core.Path.{_≡_, _∙_, refl, sym, ap, ap₂, subst}
 use mathlib.Core.Bool.{Bool, true, false, cond, not}
 use mathlib.Core.List.{List}
-use Prim.Native.Nat.{ℕ, _+_, _*_, _≤_, _<_}
+use Prim.Native.Nat.{ℕ, zero, suc, _+_, _*_, _≤_, _<_}
 use native.Mathlib.Omega.{arith}
 use lib.Dec.{ltb}
 use lib.ListN.{drop, getD}
 use borrow.Author.Tests.{le-ltb, ltb-false}
+use Rattle.ground.specs.declared.Part.{Part}
+use Rattle.ground.specs.declared.Part.the-variants.{Ht, Gn}
+use Rattle.ground.specs.Parts.{partNumber, partOf}
 use Rattle.ground.specs.Values.{values, agree}
 use Rattle.commands.specs.Commands.{byteMeaning, codeMeaning, commandFault}
 use Rattle.lines.specs.declared.Edge.{Edge}
@@ -37,7 +40,7 @@ use Rattle.simulator.specs.Simulator.{answerCode, stepReturns, stepBytes}
 use Rattle.state.proofs.BytesLaws.{settings-bytes}
 use Rattle.sheet.specs.Bytes.{byte}
 use Rattle.sheet.specs.Commands.{defined, effectOf, NinthBit, CommandsSheet}
-use Rattle.sheet.proofs.BytesLaws.{bytes-spelt, settings-said, bits-small}
+use Rattle.sheet.proofs.BytesLaws.{bytes-spelt, settings-said, part-said, bits-small}
 use Rattle.sheet.proofs.CommandsLaws.{effect-same, defined-same, code-taken, code-meaning, code-told}
 use Rattle.sheet.proofs.NinthBitLaws.{first-bit, edge-takes, takes-only, frame-keeps}
 
@@ -47,6 +50,9 @@ module _ (b : List ℕ) (sample : ℕ) (valid : recordValid b ≡ true) where
   abbrev c : Chip
   c = chipOf b
 
+  abbrev part : Part
+  part = c .settings .part
+
   has : FrameHas (byte b 32) (byte b 33) (byte b 34) (valueIn b) (byte b 37) (byte b 38) (byte b 39)
   has = fits-has b (valid-has b valid .frame)
 
@@ -54,7 +60,7 @@ module _ (b : List ℕ) (sample : ℕ) (valid : recordValid b ≡ true) where
     abbrev upshot : Upshot
     upshot = framedBy (c .port) (levels sample) .upshot
 
-    returns-answer : stepReturns b sample ≡ answerCode (model.told upshot)
+    returns-answer : stepReturns b sample ≡ answerCode (model.told part upshot)
     unfolding stepReturns stepped steppedTo moved
     returns-answer = simp (valid, le-ltb 15 sample low)
 
@@ -92,21 +98,24 @@ module _ (b : List ℕ) (sample : ℕ) (valid : recordValid b ≡ true) where
         ap₂ (λ (e : Edge) (phase : Phase). frame e (getD (c .port .memory) (address (c .port .phase)) 0) phase (c .port .line)) takes commanding
         ∙ ap (λ (code : ℕ). framed (Command 0 0) Released (Code code)) (code-taken (byte b 35) code-small (levels sample .bit))
 
-    told : stepReturns b sample ≡ cond (defined (byte b 35)) 6 7 + 256 * byte b 35
+    told : stepReturns b sample ≡ cond (defined (byte b 58) (byte b 35)) 6 7 + 256 * byte b 35
+    unfolding chipOf
     told =
-        returns-answer (ninth .inRange) ∙ ap (λ (f : Framed). answerCode (model.told (f .upshot))) frames
-        ∙ ap (λ (d : Decoded). answerCode (decodedAnswer d (byte b 35))) (code-meaning (byte b 35) code-small)
-        ∙ code-told (byteMeaning (byte b 35)) (byte b 35)
-        ∙ ap (λ (t : Bool). cond t 6 7 + 256 * byte b 35) (sym (defined-same (byte b 35) code-small))
+        returns-answer (ninth .inRange) ∙ ap (λ (f : Framed). answerCode (model.told part (f .upshot))) frames
+        ∙ ap (λ (d : Decoded). answerCode (decodedAnswer d (byte b 35))) (code-meaning (byte b 35) code-small part)
+        ∙ code-told (byteMeaning part (byte b 35)) (byte b 35)
+        ∙ ap (λ (t : Bool). cond t 6 7 + 256 * byte b 35) (sym (defined-same part (byte b 35) code-small))
+        ∙ ap (λ (n : ℕ). cond (defined n (byte b 35)) 6 7 + 256 * byte b 35) (part-said b valid)
 
-    obeyed : drop 40 (stepBytes b sample) ≡ drop 40 (effectOf (byte b 35) b)
+    obeyed : drop 40 (stepBytes b sample) ≡ drop 40 (effectOf (byte b 58) (byte b 35) b)
     unfolding settingsAfter
     obeyed =
         leaves-settings (ninth .inRange)
         ∙ ap (λ (f : Framed). settingsBytes (settingsAfter (f .upshot) (settingsOf b))) frames
-        ∙ ap (λ (d : Decoded). settingsBytes (obeyedAs d (settingsOf b))) (code-meaning (byte b 35) code-small)
+        ∙ ap (λ (d : Decoded). settingsBytes (obeyedAs d (settingsOf b))) (code-meaning (byte b 35) code-small (settingsOf b .part))
         ∙ sym (effect-same b (settingsOf b) (byte b 35) code-small)
-        ∙ ap (λ (l : List ℕ). drop 40 (effectOf (byte b 35) l)) (sym (bytes-spelt b valid))
+        ∙ ap (λ (l : List ℕ). drop 40 (effectOf (partNumber (settingsOf b .part)) (byte b 35) l)) (sym (bytes-spelt b valid))
+        ∙ ap (λ (n : ℕ). drop 40 (effectOf n (byte b 35) b)) (part-said b valid)
 
   -- ---- that takes no ninth bit
 
@@ -143,19 +152,24 @@ module _ (b : List ℕ) (sample : ℕ) (valid : recordValid b ≡ true) where
           ∙ sym (settings-said b valid)
 
 -- what the driver refuses, and the ninth bit, code by code
-faults : values commandFault 0 256 ≡ values (λ c. not (defined c)) 0 256
+faults : (part : ℕ) → part ≤ 1 → values (commandFault (partOf part)) 0 256 ≡ values (λ c. not (defined part c)) 0 256
 unfolding commandFault codeMeaning byteMeaning
-faults = refl
+faults zero h = refl
+faults (suc zero) h = refl
+faults (suc (suc part)) h = let no : ⊥ = omega arith in absurd no
 
-ninths : values (λ (c : ℕ). codeMeaning (2 * c + 1)) 0 256 ≡ values (λ (c : ℕ). codeMeaning (2 * c)) 0 256
+ninths : (part : Part) → values (λ (c : ℕ). codeMeaning part (2 * c + 1)) 0 256 ≡ values (λ (c : ℕ). codeMeaning part (2 * c)) 0 256
 unfolding codeMeaning byteMeaning
-ninths = refl
+ninths Ht = refl
+ninths Gn = refl
 
 pub commands-sheet : CommandsSheet
 commands-sheet =
     record {
       steps = λ b sample valid. record { answer = told b sample valid; effect = obeyed b sample valid; none = settings-stay b sample valid };
-      undefined = refl;
-      refused = λ code low. agree commandFault (λ (c : ℕ). not (defined c)) 256 faults code low;
-      ninth = λ code low. agree (λ (c : ℕ). codeMeaning (2 * c + 1)) (λ (c : ℕ). codeMeaning (2 * c)) 256 ninths code low;
+      undefined = (refl, refl);
+      refused = λ part code known low.
+          agree (commandFault (partOf part)) (λ (c : ℕ). not (defined part c)) 256 (faults part known) code low;
+      ninth = λ part code low.
+          agree (λ (c : ℕ). codeMeaning part (2 * c + 1)) (λ (c : ℕ). codeMeaning part (2 * c)) 256 (ninths part) code low;
     }

@@ -9,6 +9,9 @@ use native.Mathlib.Nat.{add-zero}
 use lib.ListN.{drop}
 use borrow.Author.Tests.{le-ltb}
 use Rattle.ground.proofs.BitsLaws.{bitNumber-small}
+use Rattle.ground.specs.declared.Part.{Part}
+use Rattle.ground.specs.declared.Part.the-variants.{Ht, Gn}
+use Rattle.ground.specs.Parts.{partNumber}
 use Rattle.ground.specs.Values.{agree}
 use Rattle.commands.specs.declared.Decoded.{Decoded}
 use Rattle.commands.specs.declared.Decoded.the-variants.{Undefined, Means}
@@ -19,7 +22,7 @@ use Rattle.settings.specs.declared.IrqSource.{IrqSource}
 use Rattle.settings.specs.declared.IrqSource.the-variants.{Neither, TimeBase, Flag}
 use Rattle.settings.specs.declared.Settings.{Settings}
 use Rattle.rules.specs.Effects.{effect}
-use Rattle.settings.specs.Settings.{sourceTo, irqSourceTo}
+use Rattle.settings.specs.Settings.{sourceTo, irqSourceTo, partTo}
 use Rattle.settings.specs.Bytes.{settingsBytes}
 use Rattle.frames.specs.Frames.{more}
 use Rattle.chip.specs.Chip.{decodedAnswer, obeyedAs}
@@ -31,10 +34,10 @@ use Rattle.sheet.proofs.BytesLaws.{spelt}
 
 module _ (b : List ℕ) where
   abbrev on-bytes : Settings → ℕ → List ℕ
-  on-bytes s code = drop 40 (effectOf code (spelt b s))
+  on-bytes s code = drop 40 (effectOf (partNumber (s .part)) code (spelt b s))
 
   abbrev on-settings : Settings → ℕ → List ℕ
-  on-settings s code = settingsBytes (obeyedAs (byteMeaning code) s)
+  on-settings s code = settingsBytes (obeyedAs (byteMeaning (s .part) code) s)
 
   -- the three codes whose effect goes by a source
   sys-dis : (s : Settings) (source : Source) → on-bytes (sourceTo source s) 0x00 ≡ on-settings (sourceTo source s) 0x00
@@ -55,7 +58,19 @@ module _ (b : List ℕ) where
   wdt-dis s TimeBase = refl
   wdt-dis s Flag = refl
 
-  pub effect-same : (s : Settings) (code : ℕ) → code < 256 → drop 40 (effectOf code (spelt b s)) ≡ settingsBytes (obeyedAs (byteMeaning code) s)
+  -- the others, in each part
+  others : (part : Part) (s : Settings) (k : ℕ) → k < 250
+      → on-bytes (partTo part s) (suc (suc (suc (suc (suc (suc k)))))) ≡ on-settings (partTo part s) (suc (suc (suc (suc (suc (suc k))))))
+  unfolding byteMeaning effect obeyedAs
+  others Ht s k h =
+      agree (λ (n : ℕ). on-bytes (partTo Ht s) (suc (suc (suc (suc (suc (suc n)))))))
+      (λ (n : ℕ). on-settings (partTo Ht s) (suc (suc (suc (suc (suc (suc n))))))) 250 refl k h
+  others Gn s k h =
+      agree (λ (n : ℕ). on-bytes (partTo Gn s) (suc (suc (suc (suc (suc (suc n)))))))
+      (λ (n : ℕ). on-settings (partTo Gn s) (suc (suc (suc (suc (suc (suc n))))))) 250 refl k h
+
+  pub effect-same : (s : Settings) (code : ℕ) → code < 256
+      → drop 40 (effectOf (partNumber (s .part)) code (spelt b s)) ≡ settingsBytes (obeyedAs (byteMeaning (s .part) code) s)
   unfolding byteMeaning effect obeyedAs
   effect-same s zero h = sys-dis s (s .system .source)
   effect-same s (suc zero) h = refl
@@ -63,14 +78,13 @@ module _ (b : List ℕ) where
   effect-same s (suc (suc (suc zero))) h = refl
   effect-same s (suc (suc (suc (suc zero)))) h = timer-dis s (s .irq .source)
   effect-same s (suc (suc (suc (suc (suc zero))))) h = wdt-dis s (s .irq .source)
-  effect-same s (suc (suc (suc (suc (suc (suc k)))))) h =
-      agree (λ (n : ℕ). on-bytes s (suc (suc (suc (suc (suc (suc n))))))) (λ (n : ℕ). on-settings s (suc (suc (suc (suc (suc (suc n)))))))
-      250 refl k (omega arith)
+  effect-same s (suc (suc (suc (suc (suc (suc k)))))) h = others (s .part) s k (omega arith)
 
 -- the codes that the table defines are those that have a meaning
-pub defined-same : (code : ℕ) → code < 256 → defined code ≡ not (undefined (byteMeaning code))
+pub defined-same : (part : Part) (code : ℕ) → code < 256 → defined (partNumber part) code ≡ not (undefined (byteMeaning part code))
 unfolding byteMeaning
-defined-same code h = agree defined (λ (n : ℕ). not (undefined (byteMeaning n))) 256 refl code h
+defined-same Ht code h = agree (defined 0) (λ (n : ℕ). not (undefined (byteMeaning Ht n))) 256 refl code h
+defined-same Gn code h = agree (defined 1) (λ (n : ℕ). not (undefined (byteMeaning Gn n))) 256 refl code h
 
 -- ---- what it is answered, and what it then does to the settings
 
@@ -79,9 +93,9 @@ module _ (code : ℕ) (small : code < 256) where
   pub code-taken : (bit : Bool) → more code bit / 2 % 256 ≡ code
   code-taken bit = omega (arith, bitNumber-small bit)
 
-  pub code-meaning : codeMeaning (2 * code) ≡ byteMeaning code
+  pub code-meaning : (part : Part) → codeMeaning part (2 * code) ≡ byteMeaning part code
   unfolding codeMeaning
-  code-meaning =
+  code-meaning part =
       let half : 2 * code / 2 ≡ code = omega arith in
       simp (le-ltb 511 (2 * code) (omega arith), half)
 

@@ -164,7 +164,7 @@ module _ (b : List ℕ) (valid : recordValid b ≡ true) (s : ℕ) (small : s �
     more-in (suc (suc (suc (suc (suc (suc (suc zero))))))) e h = let no : ⊥ = omega arith in absurd no
     more-in (suc (suc (suc (suc (suc (suc (suc (suc code)))))))) e h = let no : ⊥ = omega arith in absurd no
 
-    ninth : (decoded : Decoded) → codeMeaning (2 * bits b) ≡ decoded
+    ninth : (decoded : Decoded) → codeMeaning (chipOf b .settings .part) (2 * bits b) ≡ decoded
         → framedBy (chipOf b .port) (levels s) ≡ framed (Command 0 0) Released (Code (bits b)) → Completes b s
     unfolding answerCode memoryAfter settingsAfter obeyedAs
     ninth (Means command) d e = inl (
@@ -205,6 +205,6 @@ module _ (b : List ℕ) (valid : recordValid b ≡ true) (s : ℕ) (small : s �
               completes e count (take 32 b)
               (set-out (take 32 b) (byte b 37) (nibbleOf (withBit b s)) (omega (arith, size b valid, past)));
           commands = λ e count.
-              ninth (codeMeaning (2 * bits b)) refl
+              ninth (codeMeaning (chipOf b .settings .part) (2 * bits b)) refl
               (taken-by (Command (byte b 34) (bits b)) (phase-at b valid 6 e) ∙ rw (count, with-bit, upper-eight));
         }

@@ -10,6 +10,12 @@ use lib.Dec.{T}
 use lib.ListN.{getD, replicate, getD-replicate}
 use borrow.Author.Tests.{eqb-true, eq-eqb, ne-eqb}
 use Rattle.ground.specs.Values.{agree}
+use Rattle.ground.specs.Codes.{caseOf}
+use Rattle.ground.specs.declared.Part.{Part}
+use Rattle.ground.specs.declared.Part.the-variants.{Ht}
+use Rattle.ground.specs.Parts.{partNumber, parts}
+use Rattle.clock.specs.Sizes.{scanSize}
+use Rattle.clock.specs.Valid.{ScanValid}
 use Rattle.ground.proofs.RangesLaws.{upTo-at}
 use Rattle.commands.specs.Numbers.{biasNumber, commonsNumber}
 use Rattle.commands.specs.declared.Bias.{Bias}
@@ -22,11 +28,11 @@ use Rattle.settings.specs.Numbers.{pitchNumber}
 use Rattle.settings.specs.declared.Pitch.{Pitch}
 use Rattle.settings.specs.declared.Pitch.the-variants.{FourK, TwoK}
 use Rattle.settings.specs.Bytes.{settingsMaxima, settingsOf}
-use Rattle.settings.proofs.BytesLaws.{settings-has}
-use Rattle.state.specs.Record.{recordValid}
+use Rattle.settings.proofs.BytesLaws.{settings-has, settings-valid}
+use Rattle.state.specs.Record.{recordValid, chipOf}
 use Rattle.state.proofs.TripLaws.{RecordHas, valid-has}
 use Rattle.sheet.specs.Bytes.{byte}
-use Rattle.sheet.specs.Ranges.{WellFormed, RangesSheet}
+use Rattle.sheet.specs.Ranges.{ChipBytes, ScanBytes, RangesSheet, ZerosAreHt}
 use Rattle.sheet.proofs.BytesLaws.{spelt, bytes-spelt, bits-small}
 use Rattle.sheet.proofs.RangesLaws.{well-formed-valid}
 
@@ -39,10 +45,10 @@ bias-codes : (bias : Bias) (n : ℕ) → biasNumber bias ≡ n → (n ≡ 2) ⊎
 bias-codes Half n e = inl (sym e)
 bias-codes Third n e = inr (sym e)
 
-commons-codes : (commons : Commons) (n : ℕ) → commonsNumber commons ≡ n → 2 ≤ n
-commons-codes Two n e = omega (arith, e)
-commons-codes Three n e = omega (arith, e)
-commons-codes Four n e = omega (arith, e)
+commons-codes : (commons : Commons) (n : ℕ) → commonsNumber commons ≡ n → (2 ≤ n) × (n ≤ 4)
+commons-codes Two n e = (omega (arith, e), omega (arith, e))
+commons-codes Three n e = (omega (arith, e), omega (arith, e))
+commons-codes Four n e = (omega (arith, e), omega (arith, e))
 
 pitch-codes : (pitch : Pitch) (n : ℕ) → pitchNumber pitch ≡ n → (n ≡ 4) ⊎ (n ≡ 2)
 pitch-codes FourK n e = inl (sym e)
@@ -86,20 +92,36 @@ module _ (bytes : List ℕ) (valid : recordValid bytes ≡ true) where
   none-in : (code : ℕ) → getD mostBits code 0 ≡ 0 → byte bytes 33 ≡ code → byte bytes 34 ≡ 0
   none-in code most e = omega (arith, most, bits-in code e)
 
-  -- what the settings are written as, of which the last six bytes are zero
+  -- what the settings are written as, of which the last three bytes are zero
   said : (i : ℕ) → byte (spelt bytes (settingsOf bytes)) i ≡ byte bytes i
   said i = ap (λ (l : List ℕ). byte l i) (sym (bytes-spelt bytes valid))
 
-  last-zero : (i : ℕ) → 58 ≤ i → i ≤ 63 → byte bytes i ≡ 0
+  last-zero : (i : ℕ) → 61 ≤ i → i ≤ 63 → byte bytes i ≡ 0
   last-zero i h k =
-      let at : 58 + (i - 58) ≡ i = omega arith in
+      let at : 61 + (i - 61) ≡ i = omega arith in
       sym (said i) ∙ ap (λ (n : ℕ). byte (spelt bytes (settingsOf bytes)) n) (sym at)
-      ∙ agree (λ (j : ℕ). byte (spelt bytes (settingsOf bytes)) (58 + j)) (λ (j : ℕ). 0) 6 refl (i - 58) (omega arith)
+      ∙ agree (λ (j : ℕ). byte (spelt bytes (settingsOf bytes)) (61 + j)) (λ (j : ℕ). 0) 3 refl (i - 61) (omega arith)
 
-  well-formed : WellFormed bytes
-  well-formed =
+  -- the scan that they say is one that the part can have
+  scan : ScanValid (settingsOf bytes .part) (settingsOf bytes .lcd .commons) (settingsOf bytes .scan)
+  scan = settings-valid bytes (settings-has bytes (has .long) (has .settings)) .2
+
+  count-in : (part : ℕ) → byte bytes 58 ≡ part → byte bytes 59 < scanSize (caseOf partNumber parts Ht part)
+  count-in part e = subst (λ (part : Part). byte bytes 59 < scanSize part) (ap (caseOf partNumber parts Ht) e) (scan .count)
+
+  scan-bytes : ScanBytes bytes
+  scan-bytes =
       record {
-        size = has .long;
+        part = at-most 18 (omega arith);
+        countOfHt = λ e. omega (arith, count-in 0 e);
+        countOfGn = λ e. omega (arith, count-in 1 e);
+        common = subst (λ (n : ℕ). byte bytes 60 < n) (said 44) (scan .common);
+        zeros = last-zero;
+      }
+
+  chip-bytes : ChipBytes bytes
+  chip-bytes =
+      record {
         memory = nibble-at;
         lines = frame .lines-low;
         phase = frame .phase;
@@ -112,7 +134,7 @@ module _ (bytes : List ℕ) (valid : recordValid bytes ≡ true) where
         source = at-most 1 (omega arith);
         lcd = at-most 2 (omega arith);
         bias = bias-codes (settingsOf bytes .lcd .bias) _ (said 43);
-        commons = (commons-codes (settingsOf bytes .lcd .commons) _ (said 44), at-most 4 (omega arith));
+        commons = commons-codes (settingsOf bytes .lcd .commons) _ (said 44);
         tone = at-most 5 (omega arith);
         pitch = pitch-codes (settingsOf bytes .tone .pitch) _ (said 46);
         irqOutput = at-most 7 (omega arith);
@@ -126,7 +148,6 @@ module _ (bytes : List ℕ) (valid : recordValid bytes ≡ true) where
         b = at-most 15 (omega arith);
         w = at-most 16 (omega arith);
         test = at-most 17 (omega arith);
-        zeros = last-zero;
         noFrame = no-frame (byte bytes 32) (byte bytes 33) (frame .cs);
         someFrame = some-frame (byte bytes 32) (byte bytes 33) (frame .cs);
         idBits = bits-in 1;
@@ -140,4 +161,27 @@ module _ (bytes : List ℕ) (valid : recordValid bytes ≡ true) where
       }
 
 pub ranges-sheet : RangesSheet
-ranges-sheet bytes = (well-formed bytes, well-formed-valid bytes)
+ranges-sheet bytes = (
+  λ valid. record { size = valid-has bytes valid .long; chip = chip-bytes bytes valid; scan = scan-bytes bytes valid },
+  λ formed. well-formed-valid bytes (formed .size) (formed .chip) (formed .scan),
+)
+
+-- ---- zeros from byte 58 on
+
+pub zeros-are-ht : ZerosAreHt
+unfolding chipOf
+zeros-are-ht bytes size zeros =
+    record {
+      valid = chip-bytes bytes;
+      validOnly = λ chip.
+          well-formed-valid bytes size chip
+          (record {
+            part = omega (arith, zeros 58 (omega arith) (omega arith));
+            countOfHt = λ e. omega (arith, zeros 59 (omega arith) (omega arith));
+            countOfGn = λ e. omega (arith, zeros 59 (omega arith) (omega arith));
+            common = omega (arith, zeros 60 (omega arith) (omega arith), chip .commons .0);
+            zeros = λ i h k. zeros i (omega arith) k;
+          });
+      part = ap (caseOf partNumber parts Ht) (zeros 58 (omega arith) (omega arith));
+      scan = λ i. record { count = zeros 59 (omega arith) (omega arith) i; common = zeros 60 (omega arith) (omega arith) i };
+    }

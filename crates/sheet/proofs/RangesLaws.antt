@@ -10,19 +10,22 @@ use lib.Dec.{leb, eqb}
 use lib.ListN.{length, getD, drop, replicate, getD-replicate, drop-of-length-le}
 use borrow.Author.Tests.{eqb-true, eqb-false, le-leb, lt-ltb, eq-eqb, ne-eqb}
 use Rattle.ground.specs.Values.{agree}
-use Rattle.ground.specs.Codes.{isCode}
+use Rattle.ground.specs.Codes.{isCode, caseOf}
+use Rattle.ground.specs.declared.Part.the-variants.{Ht}
+use Rattle.ground.specs.Parts.{partNumber, parts}
 use Rattle.ground.specs.Ranges.{upTo}
 use Rattle.ground.proofs.ChoiceLaws.{and-both}
 use Rattle.ground.proofs.WrittenLaws.{gathered}
-use Rattle.clock.specs.Numbers.{sourceNumber}
+use Rattle.clock.specs.Sizes.{scanSize}
 use Rattle.commands.specs.Numbers.{biasNumber, commonsNumber}
 use Rattle.phases.specs.Frame.{inRange, goesWithCs, mostBits, bitsRight, restRight, frameRight, frameFits}
-use Rattle.settings.specs.Numbers.{pitchNumber, irqSourceNumber}
-use Rattle.settings.specs.Selections.{sources, biases, commonses, pitches, irqSources}
-use Rattle.settings.specs.Bytes.{settingsMaxima, settingsRight}
+use Rattle.settings.specs.Numbers.{pitchNumber}
+use Rattle.settings.specs.Selections.{biases, commonses, pitches}
+use Rattle.settings.specs.Bytes.{settingsMaxima, scanFits, scanRight, settingsRight}
+use Rattle.settings.proofs.BytesLaws.{scan-small}
 use Rattle.state.specs.Record.{memoryFits, recordValid}
 use Rattle.sheet.specs.Bytes.{byte}
-use Rattle.sheet.specs.Ranges.{WellFormed}
+use Rattle.sheet.specs.Ranges.{ChipBytes, ScanBytes}
 
 -- ---- each number that a selection can have is the code of a case
 
@@ -33,12 +36,6 @@ bias-right n (inr e) = rw e
 pitch-right : (n : ℕ) → (n ≡ 4) ⊎ (n ≡ 2) → isCode pitchNumber pitches n ≡ true
 pitch-right n (inl e) = rw e
 pitch-right n (inr e) = rw e
-
-source-right : (n : ℕ) → n ≤ 2 → isCode sourceNumber sources n ≡ true
-source-right n h = agree (λ (k : ℕ). isCode sourceNumber sources k) (λ (k : ℕ). true) 3 refl n (omega arith)
-
-irqSource-right : (n : ℕ) → n ≤ 2 → isCode irqSourceNumber irqSources n ≡ true
-irqSource-right n h = agree (λ (k : ℕ). isCode irqSourceNumber irqSources k) (λ (k : ℕ). true) 3 refl n (omega arith)
 
 commons-right : (n : ℕ) → 2 ≤ n → n ≤ 4 → isCode commonsNumber commonses n ≡ true
 commons-right n h k =
@@ -55,7 +52,7 @@ each-upTo (byte ∷ bytes) (maximum ∷ most) within =
 
 -- ---- the record
 
-module _ (bytes : List ℕ) (r : WellFormed bytes) where
+module _ (bytes : List ℕ) (size : length bytes ≡ 64) (r : ChipBytes bytes) (scan : ScanBytes bytes) where
   -- the most unfinished bits in each phase
   most-in : (code : ℕ) → byte bytes 33 ≡ code → code ≤ 7 → byte bytes 34 ≤ getD mostBits code 0
   most-in zero e h = omega (arith, r .noBits (inl e))
@@ -74,22 +71,28 @@ module _ (bytes : List ℕ) (r : WellFormed bytes) where
   memory-fits : memoryFits bytes ≡ true
   memory-fits = each-upTo bytes (replicate 32 15) (λ i h. rw (getD-replicate {A = ℕ} 32 i 15 0 h) (r .memory i (omega (arith, h))))
 
-  last : (i : ℕ) → 58 ≤ i → i ≤ 63 → leb (byte bytes i) 0 ≡ true
-  last i h k = le-leb (byte bytes i) 0 (omega (arith, r .zeros i h k))
+  last : (i : ℕ) → 61 ≤ i → i ≤ 63 → leb (byte bytes i) 0 ≡ true
+  last i h k = le-leb (byte bytes i) 0 (omega (arith, scan .zeros i h k))
+
+  -- the scan's counter in either part
+  count-below : (part : ℕ) → byte bytes 58 ≡ part → byte bytes 59 < scanSize (caseOf partNumber parts Ht part)
+  count-below zero e = omega (arith, scan .countOfHt e)
+  count-below (suc zero) e = omega (arith, scan .countOfGn e)
+  count-below (suc (suc part)) e = let no : ⊥ = omega (arith, scan .part, e) in absurd no
 
   settings-fit : upTo (drop 40 bytes) settingsMaxima ≡ true
   unfolding upTo
   settings-fit =
       rw (
-        gathered 24 40 bytes (omega (arith, r .size)),
-        drop-of-length-le bytes {i = 64} (omega (arith, r .size)),
+        gathered 24 40 bytes (omega (arith, size)),
+        drop-of-length-le bytes {i = 64} (omega (arith, size)),
         le-leb (byte bytes 40) 1 (r .system),
         le-leb (byte bytes 41) 2 (r .source),
         le-leb (byte bytes 42) 1 (r .lcd),
-        le-leb (byte bytes 43) 3 (⊎-elim (λ e. omega (arith, e)) (λ e. omega (arith, e)) (r .bias)),
-        le-leb (byte bytes 44) 4 (r .commons .1),
+        le-leb (byte bytes 43) 255 (⊎-elim (λ e. omega (arith, e)) (λ e. omega (arith, e)) (r .bias)),
+        le-leb (byte bytes 44) 255 (omega (arith, r .commons .1)),
         le-leb (byte bytes 45) 1 (r .tone),
-        le-leb (byte bytes 46) 4 (⊎-elim (λ e. omega (arith, e)) (λ e. omega (arith, e)) (r .pitch)),
+        le-leb (byte bytes 46) 255 (⊎-elim (λ e. omega (arith, e)) (λ e. omega (arith, e)) (r .pitch)),
         le-leb (byte bytes 47) 1 (r .irqOutput),
         le-leb (byte bytes 48) 7 (r .rate),
         le-leb (byte bytes 49) 1 (r .timeBase),
@@ -101,9 +104,9 @@ module _ (bytes : List ℕ) (r : WellFormed bytes) where
         le-leb (byte bytes 55) 255 (r .b),
         le-leb (byte bytes 56) 3 (r .w),
         le-leb (byte bytes 57) 1 (r .test),
-        last 58 (omega arith) (omega arith),
-        last 59 (omega arith) (omega arith),
-        last 60 (omega arith) (omega arith),
+        le-leb (byte bytes 58) 1 (scan .part),
+        le-leb (byte bytes 59) 255 (omega (arith, count-below (byte bytes 58) refl, scan-small (caseOf partNumber parts Ht (byte bytes 58)))),
+        le-leb (byte bytes 60) 255 (omega (arith, scan .common, r .commons .1)),
         last 61 (omega arith) (omega arith),
         last 62 (omega arith) (omega arith),
         last 63 (omega arith) (omega arith),
@@ -147,18 +150,21 @@ module _ (bytes : List ℕ) (r : WellFormed bytes) where
         rest-right,
       )
 
+  scan-right : scanRight bytes ≡ true
+  unfolding scanFits
+  scan-right = and-both (lt-ltb _ _ (scan .common)) (lt-ltb _ _ (count-below (byte bytes 58) refl))
+
   settings-right : settingsRight bytes ≡ true
   unfolding settingsRight
   settings-right =
       rw (
         settings-fit,
-        source-right (byte bytes 41) (r .source),
+        scan-right,
         bias-right (byte bytes 43) (r .bias),
         commons-right (byte bytes 44) (r .commons .0) (r .commons .1),
         pitch-right (byte bytes 46) (r .pitch),
-        irqSource-right (byte bytes 50) (r .irqSource),
       )
 
   pub well-formed-valid : recordValid bytes ≡ true
   unfolding recordValid
-  well-formed-valid = rw (eq-eqb _ _ (r .size), memory-fits, frame-fits, settings-right)
+  well-formed-valid = rw (eq-eqb _ _ (size), memory-fits, frame-fits, settings-right)

@@ -86,11 +86,11 @@ module _ (b : List ℕ) (valid : recordValid b ≡ true) where
       unfolding stepped steppedTo moved
       stepped-is = rw (le-ltb 15 s small, e)
 
-      pub tells : stepReturns b s ≡ answerCode (told (f .upshot))
+      pub tells : stepReturns b s ≡ answerCode (told (c .settings .part) (f .upshot))
       tells = step-tells ∙ ap (λ (r : Stepped). answerCode (r .answer)) stepped-is
 
       -- a frame that keeps the settings
-      pub stores : (returned : ℕ) (memory frame : List ℕ) → answerCode (told (f .upshot)) ≡ returned
+      pub stores : (returned : ℕ) (memory frame : List ℕ) → answerCode (told (c .settings .part) (f .upshot)) ≡ returned
           → memoryAfter (f .upshot) (take 32 b) ≡ memory → settingsAfter (f .upshot) (c .settings) ≡ c .settings
           → frameLeft (f .phase) (f .line) ≡ frame → Stores b s returned memory frame
       unfolding chipOf

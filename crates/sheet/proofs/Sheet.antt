@@ -7,7 +7,7 @@ use Rattle.sheet.proofs.Ticks.{ticks-sheet}
 use Rattle.sheet.proofs.Pins.{pins-sheet}
 use Rattle.sheet.proofs.Streams.{streams-sheet}
 use Rattle.sheet.proofs.Left.{left-sheet}
-use Rattle.sheet.proofs.Ranges.{ranges-sheet}
+use Rattle.sheet.proofs.Ranges.{ranges-sheet, zeros-are-ht}
 
 pub sheet : Sheet
 sheet =
@@ -20,4 +20,5 @@ sheet =
       streams = streams-sheet;
       left = left-sheet;
       ranges = ranges-sheet;
+      zeros = zeros-are-ht;
     }

@@ -1,4 +1,4 @@
--- RULES "Commands", of the bytes of a record: what the ninth bit of a command makes of them, for each of the 256 codes.
+-- RULES "Commands", of the bytes of a record: what the ninth bit of a command makes of them, for each of the 256 codes and both parts.
 -- Assumes nothing.
 use mathlib.Core.Path.{_≡_}
 use mathlib.Core.Bool.{Bool, true, false, cond, not, _&&_, _||_}
@@ -7,6 +7,8 @@ use Prim.Native.Nat.{ℕ, zero, suc, _+_, _*_, _/_, _%_, _≤_, _<_}
 use lib.Dec.{eqb, leb}
 use lib.ListN.{drop, set}
 use Rattle.ground.specs.Bits.{bitAt}
+use Rattle.ground.specs.declared.Part.{Part}
+use Rattle.ground.specs.Parts.{partOf}
 use Rattle.commands.specs.Commands.{codeMeaning, commandFault}
 use Rattle.state.specs.Record.{recordValid}
 use Rattle.simulator.specs.Simulator.{stepReturns, stepBytes}
@@ -22,9 +24,13 @@ pub record Codes : Type 0 where
 abbrev pub codes : ℕ → ℕ → (List ℕ → List ℕ) → Codes
 codes first last effect = record { first = first; last = last; effect = effect }
 
--- The table, row by row as RULES lists it, with the effects: which byte becomes which number.
-abbrev pub table : ℕ → List Codes
-table code =
+-- CLR TIMER begins at 0C in the HT, part 0, and at 0A in the GN, part 1.
+abbrev pub clears : ℕ → ℕ
+clears part = cond (eqb part 0) 0x0C 0x0A
+
+-- The table of a part, row by row as RULES lists it, with the effects: which byte becomes which number.
+abbrev pub table : ℕ → ℕ → List Codes
+table part code =
     -- SYS DIS: system and LCD off, unless EXT is selected; SYS EN: system on
     codes 0x00 0x00 (λ b. cond (eqb (byte b 41) 2) b (set (set b 40 0) 42 0))
     ∷ codes 0x01 0x01 (λ b. set b 40 1)
@@ -41,14 +47,14 @@ table code =
     ∷ codes 0x08 0x08 (λ b. set b 45 0)
     ∷ codes 0x09 0x09 (λ b. set b 45 1)
     -- CLR TIMER: d and b; CLR WDT: w and the flag besides
-    ∷ codes 0x0C 0x0D (λ b. set (set b 54 0) 55 0)
+    ∷ codes (clears part) (clears part + 1) (λ b. set (set b 54 0) 55 0)
     ∷ codes 0x0E 0x0F (λ b. set (set (set (set b 54 0) 55 0) 56 0) 51 0)
     -- the clock source: XTAL, RC, EXT
     ∷ codes 0x14 0x17 (λ b. set b 41 0)
     ∷ codes 0x18 0x1B (λ b. set b 41 1)
     ∷ codes 0x1C 0x1F (λ b. set b 41 2)
-    -- the bits 0010abXc: bias by c, commons by ab
-    ∷ codes 0x20 0x2B (λ b. set (set b 43 (2 + code % 2)) 44 (2 + code / 4 % 4))
+    -- the bits 0010abXc: bias by c, commons by ab; the scan begins anew
+    ∷ codes 0x20 0x2B (λ b. set (set (set (set b 43 (2 + code % 2)) 44 (2 + code / 4 % 4)) 59 0) 60 0)
     -- the frequency of the tone: 4k, 2k
     ∷ codes 0x40 0x5F (λ b. set b 46 4)
     ∷ codes 0x60 0x7F (λ b. set b 46 2)
@@ -76,16 +82,16 @@ abbrev pub effectIn : List Codes → ℕ → List ℕ → List ℕ
 effectIn [] code b = b
 effectIn (row ∷ rows) code b = cond (within row code) (row .effect b) (effectIn rows code b)
 
-abbrev pub defined : ℕ → Bool
-defined code = definedIn (table code) code
+abbrev pub defined : ℕ → ℕ → Bool
+defined part code = definedIn (table part code) code
 
-abbrev pub effectOf : ℕ → List ℕ → List ℕ
-effectOf code b = effectIn (table code) code b
+abbrev pub effectOf : ℕ → ℕ → List ℕ → List ℕ
+effectOf part code b = effectIn (table part code) code b
 
--- How many of the codes below n are undefined.
-abbrev pub undefinedBelow : ℕ → ℕ
-undefinedBelow zero = 0
-undefinedBelow (suc n) = cond (defined n) 0 1 + undefinedBelow n
+-- How many of a part's codes below n are undefined.
+abbrev pub undefinedBelow : ℕ → ℕ → ℕ
+undefinedBelow part zero = 0
+undefinedBelow part (suc n) = cond (defined part n) 0 1 + undefinedBelow part n
 
 -- A sample that takes the ninth bit of a command, whatever its DATA: eight bits stand in a command frame, CS stays low, WR
 -- rises and RD does not fall.
@@ -98,16 +104,16 @@ pub record NinthBit (b : List ℕ) (sample : ℕ) : Type 0 where
   pub rd : falls 2 (byte b 32) sample ≡ false
 
 -- A step on a valid record. With the ninth bit it returns 6, or 7 for an undefined code, and the code, which byte 35 holds;
--- and bytes 40 to 63 are as the table has them. Any other sample leaves these as they were.
+-- and bytes 40 to 63 are as the table of the part, byte 58, has them. Any other sample leaves these as they were.
 pub record Commands (b : List ℕ) (sample : ℕ) : Type 0 where
-  pub answer : NinthBit b sample → stepReturns b sample ≡ cond (defined (byte b 35)) 6 7 + 256 * byte b 35
-  pub effect : NinthBit b sample → drop 40 (stepBytes b sample) ≡ drop 40 (effectOf (byte b 35) b)
+  pub answer : NinthBit b sample → stepReturns b sample ≡ cond (defined (byte b 58) (byte b 35)) 6 7 + 256 * byte b 35
+  pub effect : NinthBit b sample → drop 40 (stepBytes b sample) ≡ drop 40 (effectOf (byte b 58) (byte b 35) b)
   pub none : (NinthBit b sample → ⊥) → drop 40 (stepBytes b sample) ≡ drop 40 b
 
--- So it is for every one; 88 of the 256 codes are undefined, and those are what the driver refuses; and the ninth bit decides
--- nothing.
+-- So it is for every one; in each part 88 of the 256 codes are undefined, and those are what the driver refuses; and the ninth bit
+-- decides nothing.
 pub record CommandsSheet : Type 0 where
   pub steps : (b : List ℕ) (sample : ℕ) → recordValid b ≡ true → Commands b sample
-  pub undefined : undefinedBelow 256 ≡ 88
-  pub refused : (code : ℕ) → code < 256 → commandFault code ≡ not (defined code)
-  pub ninth : (code : ℕ) → code < 256 → codeMeaning (2 * code + 1) ≡ codeMeaning (2 * code)
+  pub undefined : (undefinedBelow 0 256 ≡ 88) × (undefinedBelow 1 256 ≡ 88)
+  pub refused : (part code : ℕ) → part ≤ 1 → code < 256 → commandFault (partOf part) code ≡ not (defined part code)
+  pub ninth : (part : Part) (code : ℕ) → code < 256 → codeMeaning part (2 * code + 1) ≡ codeMeaning part (2 * code)

@@ -15,16 +15,17 @@ noFrame = 15 ∷ replicate 7 0
 abbrev pub allOff : List ℕ
 allOff = 0 ∷ 1 ∷ 0 ∷ 2 ∷ 2 ∷ 0 ∷ 4 ∷ 0 ∷ 7 ∷ 0 ∷ 0 ∷ 0 ∷ 0 ∷ 0 ∷ 0 ∷ 0 ∷ 0 ∷ 0 ∷ []
 
--- The caller's 32 nibbles, these, and six zeros.
-abbrev pub freshRecord : List ℕ → List ℕ
-freshRecord memory = memory ++ (noFrame ++ allOff ++ replicate 6 0)
+-- The caller's 32 nibbles, these, the part, and five zeros, of which the first two are the scan.
+abbrev pub freshRecord : ℕ → List ℕ → List ℕ
+freshRecord part memory = memory ++ (noFrame ++ allOff ++ part ∷ replicate 5 0)
 
 -- That is written, and the rest of the buffer stays as it was.
-pub record PowersOn (memory bytes : List ℕ) : Type 0 where
-  pub returned : powerOnReturns memory bytes ≡ 64
-  pub left : powerOnBytes memory bytes ≡ freshRecord memory ++ drop 64 bytes
+pub record PowersOn (part : ℕ) (memory bytes : List ℕ) : Type 0 where
+  pub returned : powerOnReturns part memory bytes ≡ 64
+  pub left : powerOnBytes part memory bytes ≡ freshRecord part memory ++ drop 64 bytes
 
--- So for every memory of 32 nibbles and every buffer that has room.
+-- So for both parts, every memory of 32 nibbles and every buffer that has room.
 abbrev pub PowerOnSheet : Type 0
 PowerOnSheet =
-    (memory bytes : List ℕ) → length memory ≡ 32 → ((i : ℕ) → i ≤ 31 → byte memory i ≤ 15) → 64 ≤ length bytes → PowersOn memory bytes
+    (part : ℕ) (memory bytes : List ℕ) → part ≤ 1 → length memory ≡ 32 → ((i : ℕ) → i ≤ 31 → byte memory i ≤ 15) → 64 ≤ length bytes
+    → PowersOn part memory bytes

@@ -7,11 +7,13 @@ use mathlib.Core.List.{List}
 use mathlib.Core.Logic.{_⊎_}
 use Prim.Native.Nat.{ℕ, _+_, _*_, _%_, _^_, _≤_, _<_}
 use lib.ListN.{length}
-use Rattle.state.specs.Record.{recordValid}
+use Rattle.ground.specs.declared.Part.the-variants.{Ht}
+use Rattle.clock.specs.Ticks.{scanStart}
+use Rattle.state.specs.Record.{recordValid, chipOf}
 use Rattle.sheet.specs.Bytes.{byte}
 
-pub record WellFormed (bytes : List ℕ) : Type 0 where
-  pub size : length bytes ≡ 64
+-- Bytes 0 to 57.
+pub record ChipBytes (bytes : List ℕ) : Type 0 where
   -- nibbles; lines; the frame, whose count in byte 34 goes by its phase and stands below
   pub memory : (i : ℕ) → i ≤ 31 → byte bytes i ≤ 15
   pub lines : byte bytes 32 ≤ 15
@@ -41,7 +43,6 @@ pub record WellFormed (bytes : List ℕ) : Type 0 where
   pub b : byte bytes 55 ≤ 255
   pub w : byte bytes 56 ≤ 3
   pub test : byte bytes 57 ≤ 1
-  pub zeros : (i : ℕ) → 58 ≤ i → i ≤ 63 → byte bytes i ≡ 0
   -- no frame while CS is high, and some frame while it is low
   pub noFrame : byte bytes 32 % 2 ≡ 1 → byte bytes 33 ≡ 0
   pub someFrame : byte bytes 32 % 2 ≡ 0 → 1 ≤ byte bytes 33
@@ -57,7 +58,31 @@ pub record WellFormed (bytes : List ℕ) : Type 0 where
   -- address, position and DATA belong to reading and writing
   pub rest : (byte bytes 33 ≡ 4 → ⊥) → (byte bytes 33 ≡ 5 → ⊥) → (byte bytes 37 ≡ 0) × (byte bytes 38 ≡ 0) × (byte bytes 39 ≡ 0)
 
+-- Bytes 58 to 63: the part; the scan's counter, below 128 in the HT, part 0, and below 96 in the GN, part 1; the common that is scanned,
+-- below the commons in byte 44; and zeros.
+pub record ScanBytes (bytes : List ℕ) : Type 0 where
+  pub part : byte bytes 58 ≤ 1
+  pub countOfHt : byte bytes 58 ≡ 0 → byte bytes 59 ≤ 127
+  pub countOfGn : byte bytes 58 ≡ 1 → byte bytes 59 ≤ 95
+  pub common : byte bytes 60 < byte bytes 44
+  pub zeros : (i : ℕ) → 61 ≤ i → i ≤ 63 → byte bytes i ≡ 0
+
+pub record WellFormed (bytes : List ℕ) : Type 0 where
+  pub size : length bytes ≡ 64
+  pub chip : ChipBytes bytes
+  pub scan : ScanBytes bytes
+
 -- These and no others are valid.
 abbrev pub RangesSheet : Type 0
 RangesSheet =
     (bytes : List ℕ) → (recordValid bytes ≡ true → WellFormed bytes) × (WellFormed bytes → recordValid bytes ≡ true)
+
+-- A record with zeros from byte 58 on is valid exactly where bytes 0 to 57 are, and says an HT with its scan at the beginning.
+pub record OfHt (bytes : List ℕ) : Type 0 where
+  pub valid : recordValid bytes ≡ true → ChipBytes bytes
+  pub validOnly : ChipBytes bytes → recordValid bytes ≡ true
+  pub part : chipOf bytes .settings .part ≡ Ht
+  pub scan : chipOf bytes .settings .scan ≡ scanStart
+
+abbrev pub ZerosAreHt : Type 0
+ZerosAreHt = (bytes : List ℕ) → length bytes ≡ 64 → ((i : ℕ) → 58 ≤ i → i ≤ 63 → byte bytes i ≡ 0) → OfHt bytes

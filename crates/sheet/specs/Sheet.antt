@@ -7,7 +7,7 @@ use Rattle.sheet.specs.Ticks.{TicksSheet}
 use Rattle.sheet.specs.Pins.{PinsSheet}
 use Rattle.sheet.specs.Streams.{StreamsSheet}
 use Rattle.sheet.specs.Left.{LeftSheet}
-use Rattle.sheet.specs.Ranges.{RangesSheet}
+use Rattle.sheet.specs.Ranges.{RangesSheet, ZerosAreHt}
 
 pub record Sheet : Type 0 where
   pub samples : SamplesSheet
@@ -18,3 +18,4 @@ pub record Sheet : Type 0 where
   pub streams : StreamsSheet
   pub left : LeftSheet
   pub ranges : RangesSheet
+  pub zeros : ZerosAreHt

@@ -31,10 +31,15 @@ dSteps b =
     let after = counted 54 128 b in
     cond (eqb (byte after 54 % 2 ^ (7 - byte after 48)) 0) (bSteps after) after
 
--- A base tick: q, byte 53, steps; and d, if the time base, byte 49, is on.
+-- The scan's counter, byte 59, counts to 128 in the HT and to 96 in the GN, by byte 58: where it returns to 0 the common, byte 60, steps
+-- modulo the commons, byte 44.
+abbrev pub scanSteps : List ℕ → List ℕ
+scanSteps b = returned 59 (λ after. counted 60 (byte after 44) after) (counted 59 (cond (eqb (byte b 58) 0) 128 96) b)
+
+-- A base tick: q, byte 53, and the scan step; and d, if the time base, byte 49, is on.
 abbrev pub baseTick : List ℕ → List ℕ
 baseTick b =
-    let after = counted 53 16 b in
+    let after = scanSteps (counted 53 16 b) in
     cond (eqb (byte after 49) 1) (dSteps after) after
 
 -- A tick while running: at XTAL, byte 41 = 0, a base tick; at RC and EXT p, byte 52, steps, and where it returns to 0 there is one.

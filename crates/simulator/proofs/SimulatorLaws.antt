@@ -13,10 +13,11 @@ use Rattle.ground.specs.Bits.{bitNumber}
 use Rattle.ground.specs.Sizes.{addresses, recordLength}
 use Rattle.ground.specs.Outcomes.{writtenAs}
 use Rattle.ground.specs.Written.{byte, over}
+use Rattle.ground.proofs.ChoiceLaws.{either}
 use Rattle.clock.specs.declared.Counters.{Counters}
-use Rattle.clock.specs.Ticks.{countersTicked}
+use Rattle.clock.specs.declared.Scan.{Scan}
 use Rattle.settings.specs.declared.Settings.{Settings}
-use Rattle.settings.specs.Settings.{countersTo}
+use Rattle.settings.specs.Settings.{countersTo, scanTo}
 use Rattle.ticks.specs.Ticks as ticks
 use Rattle.pins.specs.Pins.{irqLow, bzHigh, partnerHigh, shownNibble}
 use Rattle.pins.proofs.PinsLaws.{shown-under-mask}
@@ -47,7 +48,7 @@ use Rattle.phases.specs.Frame.{dataAt}
 use Rattle.phases.proofs.FrameLaws.{fits-has, line-again}
 use Rattle.state.proofs.TripLaws.{valid-has}
 use Rattle.state.proofs.ChipLaws.{valid-chip, chip-valid}
-use Rattle.state.proofs.PartLaws.{port-part, counters-part}
+use Rattle.state.proofs.BackLaws.{port-back, counters-back}
 use Rattle.simulator.specs.Simulator.{answerCode, pinsCode, stepReturns, stepBytes, advanceReturns, advanceBytes, pinsReturns, pinsBytes}
 
 -- ---- what was read tells whether the record is valid
@@ -91,7 +92,7 @@ written-over b c long v =
     rw (le-ltb (length b) recordLength (omega (arith, long)))
     (ap (λ (l : List ℕ). recordOf c ++ l) (drop-of-length-le b {i = 0 + length (recordOf c)} (omega (arith, long, whole))) ∙ append-nil (recordOf c))
 
--- ---- only an obeyed command changes the settings, and ticks change only the counters
+-- ---- only an obeyed command changes the settings, and ticks change only the counters and the scan
 
 -- the tags of all answers but an obeyed command's, as `step` learns them
 abbrev others : List ℕ
@@ -105,11 +106,11 @@ unfolding obeyedAs
 decoded-alone Undefined code s h = refl
 decoded-alone (Means command) code s h = absurd (miss others 6 tt h)
 
-settings-alone : (upshot : Upshot) (s : Settings) → Other (told upshot) → settingsAfter upshot s ≡ s
+settings-alone : (upshot : Upshot) (s : Settings) → Other (told (s .part) upshot) → settingsAfter upshot s ≡ s
 unfolding settingsAfter
 settings-alone (Answered answer) s h = refl
 settings-alone (Nibble at nibble) s h = refl
-settings-alone (Code code) s h = decoded-alone (codeMeaning (2 * code)) code s h
+settings-alone (Code code) s h = decoded-alone (codeMeaning (s .part) (2 * code)) code s h
 
 port-alone : (c : Chip) (sample : ℕ) → sample ≤ 15 → Other (stepped c sample .answer)
     → record { port = stepped c sample .chip .port; settings = c .settings } ≡ stepped c sample .chip
@@ -122,19 +123,18 @@ port-alone c sample low other =
     (subst (λ (r : Stepped). Other (r .answer)) e other) in
     ap (λ (s : Settings). record { port = stepped c sample .chip .port; settings = s }) (sym same)
 
-tick-alone : (x : Counters) (s : Settings) → countersTo x s ≡ countersTo x (ticks.ticked s)
-unfolding ticks.ticked
-tick-alone x s = by (ticks.running s)
-  where
-    by : (t : Bool) → countersTo x s
-        ≡ countersTo x (cond t (countersTo (countersTicked (s .system .source) (s .base .on) (s .base .rate) (s .counters)) s) s)
-    by true = refl
-    by false = refl
+abbrev ticksTo : Counters → Scan → Settings → Settings
+ticksTo x y s = scanTo y (countersTo x s)
 
-counters-alone : (n : ℕ) (s : Settings) → countersTo (ticks.advanced n s .counters) s ≡ ticks.advanced n s
+tick-alone : (x : Counters) (y : Scan) (s : Settings) → ticksTo x y s ≡ ticksTo x y (ticks.ticked s)
+unfolding ticks.ticked
+tick-alone x y s = either (λ (next : Settings). ticksTo x y s ≡ ticksTo x y next) (ticks.running s) refl refl
+
+counters-alone : (n : ℕ) (s : Settings) → ticksTo (ticks.advanced n s .counters) (ticks.advanced n s .scan) s ≡ ticks.advanced n s
 unfolding ticks.advanced
 counters-alone zero s = refl
-counters-alone (suc n) s = tick-alone (ticks.advanced n (ticks.ticked s) .counters) s ∙ counters-alone n (ticks.ticked s)
+counters-alone (suc n) s =
+    let next = ticks.advanced n (ticks.ticked s) in tick-alone (next .counters) (next .scan) s ∙ counters-alone n (ticks.ticked s)
 
 -- ---- step
 
@@ -176,7 +176,7 @@ module _ (b : List ℕ) (recalled : Recalled) (e : recalled ≡ recalledFrom b) 
       step-kept other w = (
         returned,
         w ∙ ap (λ (s : Stepped). portOver (s .chip .port) b) same
-            ∙ port-part b (valid b recalled e z) (stepped (chipOf b) sample .chip .port) (next-valid .port .size)
+            ∙ port-back b (valid b recalled e z) (stepped (chipOf b) sample .chip .port) (next-valid .port .size)
             ∙ ap recordOf (port-alone (chipOf b) sample h (subst (λ (s : Stepped). Other (s .answer)) same other)) ∙ left,
       )
 
@@ -188,14 +188,14 @@ module _ (b : List ℕ) (found : SettingsRead) (e : found ≡ settingsIn b) (n :
   advance-malformed z = let v = none b found e z in (rw v, rw v)
 
   pub advance-done : (settings next : Settings) (after : List ℕ) → found ≡ Set settings → next ≡ ticks.advanced n settings
-      → after ≡ countersOver (next .counters) b → (0 ≡ advanceReturns b) × (after ≡ advanceBytes b n)
+      → after ≡ countersOver next b → (0 ≡ advanceReturns b) × (after ≡ advanceBytes b n)
   unfolding advanceReturns advanceBytes
   advance-done settings next after z d w =
       let v = there b found e settings z in
       let same : next ≡ ticks.advanced n (chipOf b .settings) = d ∙ ap (ticks.advanced n) (sym (v .1)) in (
         rw (v .0),
-        w ∙ ap (λ (s : Settings). countersOver (s .counters) b) same
-            ∙ counters-part b (v .0) (ticks.advanced n (chipOf b .settings) .counters)
+        w ∙ ap (λ (s : Settings). countersOver s b) (same ∙ sym (counters-alone n (chipOf b .settings)))
+            ∙ counters-back b (v .0) (ticks.advanced n (chipOf b .settings) .counters) (ticks.advanced n (chipOf b .settings) .scan)
             ∙ ap (λ (s : Settings). recordOf (record { port = chipOf b .port; settings = s })) (counters-alone n (chipOf b .settings)) ∙ rw (v .0),
       )
 

@@ -87,7 +87,7 @@ pub extern "C" fn step(bytes: &mut [u8], sample: u8) -> u32
     code
 }
 
-// So many single ticks: returns 0. They change the counters alone, so these alone are written back.
+// So many single ticks: returns 0. They change the counters and the scan alone, so only the bytes from these on are written back.
 #[no_mangle]
 pub extern "C" fn advance(bytes: &mut [u8], n: u16) -> u32
     ensures { λ r. ⌜ (r ≡ advanceReturns (now (bytes .entry)))
@@ -97,8 +97,7 @@ pub extern "C" fn advance(bytes: &mut [u8], n: u16) -> u32
         return refused(Refusal::Malformed);
     };
     let next = ticks::advanced(settings, n);
-    let counters = next.counters;
-    settings::write_counters(counters, bytes);
+    settings::write_counters(next, bytes);
     0
 }
 

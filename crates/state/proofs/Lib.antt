@@ -1,7 +1,7 @@
+pub mod BackLaws
 pub mod BytesLaws
 pub mod ChipLaws
 pub mod Determined
 pub mod MemoryLaws
-pub mod PartLaws
 pub mod RecordLaws
 pub mod TripLaws

@@ -1,18 +1,18 @@
 -- Laws that the proofs of this crate's functions cite: bytes put over a buffer, and what reading found. Assumes nothing.
 use mathlib.Core.Path.{_≡_, _∙_, refl, sym, ap}
-use mathlib.Core.Bool.{Bool, true, false, cond, _&&_}
+use mathlib.Core.Bool.{Bool, true, false, cond, _&&_, true≢false}
 use mathlib.Core.List.{List, _++_, append-nil}
 use Prim.Native.Nat.{ℕ, _+_, _≤_}
 use native.Mathlib.Omega.{arith}
 use lib.Dec.{ltb, eqb}
-use lib.ListN.{length, take, drop}
+use lib.ListN.{length, take}
 use borrow.Author.Tests.{eqb-true, le-ltb}
 use Rattle.ground.specs.Sizes.{addresses, recordLength}
-use Rattle.ground.specs.Ranges.{upTo}
 use Rattle.ground.specs.declared.Refusal.the-variants.{OutputShort}
 use Rattle.ground.specs.declared.Outcome.the-variants.{Written, Refused}
 use Rattle.ground.specs.Outcomes.{outcomeNumber, writtenAs}
-use Rattle.ground.specs.Written.{over, memoryFrom}
+use Rattle.ground.specs.Written.{byte, over, memoryFrom}
+use Rattle.ground.specs.Parts.{partOf}
 use Rattle.ground.proofs.ChoiceLaws.{and-left}
 use Rattle.ground.proofs.WrittenLaws.{length-over, over-over}
 use Rattle.lines.specs.declared.Levels.{Levels}
@@ -22,7 +22,7 @@ use Rattle.phases.specs.declared.FrameRead.the-variants.{Frame, NoFrame}
 use Rattle.phases.specs.Frame.{frameAt, frameOver, frameFits, levelsAt, phaseAt, phaseIn, lineAt, lineIn, holdsFrame, frameRead}
 use Rattle.settings.specs.declared.Settings.{Settings}
 use Rattle.settings.specs.declared.SettingsRead.the-variants.{Set, NoSettings}
-use Rattle.settings.specs.Bytes.{settingsAt, settingsBytes, settingsOver, settingsMaxima, selectionsKnown, settingsInRange, settingsRight, settingsOf, settingsRead}
+use Rattle.settings.specs.Bytes.{settingsAt, settingsBytes, settingsOver, settingsHeld, settingsRight, settingsOf, settingsRead, scanOf}
 use Rattle.port.specs.declared.Port.{Port}
 use Rattle.state.specs.declared.Recalled.{Recalled}
 use Rattle.state.specs.declared.Verdict.the-variants as verdict
@@ -118,9 +118,11 @@ module _ (b : List ℕ) (begun : begins b ≡ true) where
   long : eqb (length b) recordLength ≡ true
   long = and-left (eqb (length b) recordLength) (memoryFits b) begun
 
-  above : settingsInRange b ≡ false → settingsRight b ≡ false
-  unfolding settingsRight
-  above e = let no : upTo (drop settingsAt b) settingsMaxima ≡ false = rw long at e in rw no
+  pub as-long : length b ≡ recordLength
+  as-long = eqb-true (length b) recordLength long
+
+  wrong : settingsHeld b ≡ false → settingsRight b ≡ false
+  wrong e = rw long at e
 
   -- the last test that fails decides
   last-fails : settingsRight b ≡ false → recordValid b ≡ false
@@ -131,13 +133,13 @@ module _ (b : List ℕ) (begun : begins b ≡ true) where
       by true = refl
       by false = refl
 
-  pub read-above : settingsInRange b ≡ false → nothingRecalled ≡ recalledFrom b
+  pub read-wrong : settingsHeld b ≡ false → nothingRecalled ≡ recalledFrom b
   unfolding recalledFrom
-  read-above e = rw (last-fails (above e))
+  read-wrong e = rw (last-fails (wrong e))
 
-  pub settings-above : settingsInRange b ≡ false → NoSettings ≡ settingsIn b
+  pub settings-wrong : settingsHeld b ≡ false → NoSettings ≡ settingsIn b
   unfolding settingsIn
-  settings-above e = rw (last-fails (above e))
+  settings-wrong e = rw (last-fails (wrong e))
 
   pub settings-frame : holdsFrame b ≡ false → NoSettings ≡ settingsIn b
   unfolding settingsIn recordValid
@@ -147,12 +149,12 @@ module _ (b : List ℕ) (begun : begins b ≡ true) where
   unfolding recalledFrom recordValid frameRead
   read-frame e = let no : frameFits b ≡ false = frame-none (frameFits b) _ _ _ (rw long at e) in rw (begun, no)
 
-  module _ (ranged : settingsInRange b ≡ true) where
-    fit : upTo (drop settingsAt b) settingsMaxima ≡ true
-    fit = rw long at ranged
+  module _ (held : settingsHeld b ≡ true) where
+    fit : settingsRight b ≡ true
+    fit = rw long at held
 
-    pub settings-whole : holdsFrame b ≡ true → settingsRead b ≡ settingsIn b
-    unfolding settingsIn settingsRead settingsRight recordValid
+    pub settings-whole : holdsFrame b ≡ true → settingsRead b (scanOf b) (partOf (byte b 58)) ≡ settingsIn b
+    unfolding settingsIn settingsRead recordValid
     settings-whole e = let framed : frameFits b ≡ true = rw long at e in rw (begun, long, framed, fit)
 
     module _ (levels : Levels) (phase : Phase) (line : Line) (framed : frameRead b ≡ Frame levels phase line) where
@@ -163,23 +165,23 @@ module _ (b : List ℕ) (begun : begins b ≡ true) where
       fits : frameFits b ≡ true
       fits = frame .0
 
-      pub read-settings : settingsRead b ≡ NoSettings → nothingRecalled ≡ recalledFrom b
-      unfolding recalledFrom settingsRead settingsRight recordValid
+      -- of so many bytes settings are always read
+      pub read-settings : settingsRead b (scanOf b) (partOf (byte b 58)) ≡ NoSettings → nothingRecalled ≡ recalledFrom b
+      unfolding settingsRead
       read-settings e =
-          let none : selectionsKnown b ≡ false = settings-none (selectionsKnown b) (settingsOf b) (rw long at e) in
-          rw (begun, fits, fit, none)
+          let none : true ≡ false = settings-none true (settingsOf b) (rw long at e) in
+          absurd (true≢false none)
 
-      pub read-whole : (settings : Settings) (memory : List ℕ) → settingsRead b ≡ Set settings → memory ≡ memoryFrom b
+      pub read-whole : (settings : Settings) (memory : List ℕ) → settingsRead b (scanOf b) (partOf (byte b 58)) ≡ Set settings → memory ≡ memoryFrom b
           → record {
             answer = verdict.Valid;
             chip = record { port = record { memory = memory; levels = levels; phase = phase; line = line }; settings = settings };
           }
           ≡ recalledFrom b
-      unfolding recalledFrom settingsRead settingsRight recordValid chipOf
+      unfolding recalledFrom settingsRead recordValid chipOf
       read-whole settings memory e m =
-          let found = settings-found (selectionsKnown b) (settingsOf b) settings (rw long at e) in
-          let known : selectionsKnown b ≡ true = found .0 in
-          rw (begun, fits, fit, known)
+          let found = settings-found true (settingsOf b) settings (rw long at e) in
+          rw (begun, fits, fit)
           (λ i.
           record {
             answer = verdict.Valid;

@@ -27,7 +27,7 @@ verdictNumber verdict.Invalid = refusalNumber Malformed
 unfoldable pub settingsIn : List ℕ → SettingsRead
 settingsIn b = cond (recordValid b) (Set (settingsOf b)) NoSettings
 
--- 28: it hands out a chip at power-on with an empty memory.
+-- 28: it hands out an HT at power-on with an empty memory.
 abbrev pub nothingRecalled : Recalled
 nothingRecalled = record { answer = verdict.Invalid; chip = emptyChip }
 

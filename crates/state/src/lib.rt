@@ -12,6 +12,7 @@ ghost use Rattle.settings.specs.Bytes.{settingsAt};
 ghost use Rattle.state.specs.Record.{memoryFits};
 ghost use Rattle.state.specs.Answers.{nothingRecalled, recalledFrom, settingsIn, writtenOver, portOver};
 use chip::Chip;
+use clock::Scan;
 use ground::ADDRESSES;
 use ground::Outcome;
 use ground::RECORD_LENGTH;
@@ -20,6 +21,7 @@ use phases::FrameRead;
 use port::Port;
 use settings::SETTINGS_AT;
 use settings::SettingsRead;
+use settings::offsets;
 
 // Whether a record was accepted.
 pub enum Verdict {
@@ -68,13 +70,17 @@ pub fn settings_in(bytes: &[u8]) -> SettingsRead
     if !memory_right(bytes) {
         return SettingsRead::NoSettings;
     }
-    if !recall::in_range(bytes) {
+    if !recall::settings_right(bytes) {
         return SettingsRead::NoSettings;
     }
     if !resume::holds_frame(bytes) {
         return SettingsRead::NoSettings;
     }
-    recall::part_in(bytes)
+    let scan = Scan {
+        count: bytes[offsets::SCAN],
+        common: bytes[offsets::COMMON],
+    };
+    recall::settings_from(bytes, scan, recall::part_of(bytes[offsets::PART]))
 }
 
 // The chip that a record says, if the record is valid.
@@ -84,13 +90,18 @@ pub fn read(bytes: &[u8]) -> Recalled
     if !memory_right(bytes) {
         return nothing_recalled();
     }
-    if !recall::in_range(bytes) {
+    if !recall::settings_right(bytes) {
         return nothing_recalled();
     }
     let FrameRead::Frame(levels, phase, line) = resume::frame_in(bytes) else {
         return nothing_recalled();
     };
-    let SettingsRead::Set(settings) = recall::part_in(bytes) else {
+    let scan = Scan {
+        count: bytes[offsets::SCAN],
+        common: bytes[offsets::COMMON],
+    };
+    let part = recall::part_of(bytes[offsets::PART]);
+    let SettingsRead::Set(settings) = recall::settings_from(bytes, scan, part) else {
         return nothing_recalled();
     };
     Recalled {
@@ -150,6 +161,6 @@ pub fn write(chip: Chip, out: &mut [u8]) -> Outcome
     let settings = chip.settings;
     put_memory(memory, out);
     phases::write_frame(levels, phase, line, out);
-    settings::write_part(settings, out);
+    settings::write_settings(settings, out);
     Outcome::Written(RECORD_LENGTH)
 }

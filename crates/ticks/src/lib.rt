@@ -27,10 +27,15 @@ pub fn ticked(settings: Settings) -> Settings
     if running(settings) {
         let system = settings.system;
         let source = system.source;
+        let lcd = settings.lcd;
+        let commons = lcd.commons;
+        let part = settings.part;
         let mut next = settings;
         next.counters = settings
             .counters
             .ticked(source, settings.base.on, settings.base.rate);
+        let prescaler = next.counters.prescaler;
+        next.scan = settings.scan.ticked(source, prescaler, part, commons);
         return next;
     }
     settings

@@ -4,11 +4,12 @@
 //     = BYTES               a list of bytes for the calls after it: a record, nibbles, codes, noted bytes or a memory
 //     s TICKS CAPTURE       on a copy of the list, `step` for each digit, where `g` is sample 16, and `advance` by so many
 //                           ticks for each `t`: writes what each call returned, the pins and cells, and the copy
-//     p, o, c, d ROOM       `pins`, power-on, commands and decoding of the list: writes what the call returned, and the buffer
+//     p, d ROOM             `pins` and decoding of the list: writes what the call returned, and the buffer
+//     o, c ROOM PART        power-on and commands, of a part, likewise
 //     w ROOM FIRST          the writing of the list
 //     r ROOM FIRST COUNT    the reading
 //     # WORDS               writes the line as it stands
-// TICKS has 4 digits, ROOM 3, FIRST and COUNT have 16. The buffer lent is as long as ROOM says and filled with 5a before, so
+// TICKS has 4 digits, ROOM 3, PART, FIRST and COUNT have 16. The buffer lent is as long as ROOM says and filled with 5a before, so
 // that it shows what was not written; for the cells of a capture it is 33 bytes. Of the script 262,144 bytes are read, of a
 // list 160, and at most 600 bytes are lent. Assumes nothing beyond `libc`.
 ghost use mathlib.Core.Path.{_≡_};
@@ -141,13 +142,13 @@ fn run(line: &[u8], record: &mut [u8]) {
 
 // The call that a letter stands for, of those that lend a buffer. Another letter calls nothing and comes to 0.
 fn called(letter: u8, line: &[u8], bytes: &[u8], out: &mut [u8]) -> u32 {
-    let first = field(line, 6, 22);
+    let first = field(line, 6, 22); // the first address, or the part
     let count = field(line, 23, 39);
     match letter {
-        b'o' => host::ht1621_power_on(bytes, out),
+        b'o' => host::ht1621_power_on(first, bytes, out),
         b'w' => host::ht1621_write(first, bytes, out),
         b'r' => host::ht1621_read(first, count, out),
-        b'c' => host::ht1621_commands(bytes, out),
+        b'c' => host::ht1621_commands(first, bytes, out),
         b'd' => host::ht1621_decode(bytes, out),
         b'p' => simulator::pins(bytes, out),
         _ => 0,

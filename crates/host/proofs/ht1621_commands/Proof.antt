@@ -14,7 +14,7 @@ code-of-requires : tie.Need-code-of-requires
 code-of-requires c κs =
     let called = c .before .before in
     let start = called .before .before .before .before in
-    comes-held (called .commands .ensures) (commands-small (start .args .codes .now) (length (start .args .out .now)))
+    comes-held (called .commands .ensures) (commands-small (start .args .part) (start .args .codes .now) (length (start .args .out .now)))
 
 same-length : tie.Need-same-length
 same-length c = search needs

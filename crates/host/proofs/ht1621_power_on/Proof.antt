@@ -18,7 +18,7 @@ refused-code-requires : tie.Need-refused-code-requires
 refused-code-requires c κs =
     let on = c .before .before .before .before in
     let start = on .before .before .before in
-    power-on-held (start .args .memory .now) (start .args .bytes .now) (on .power-on .result) (on .power-on .ensures) _ (c .before .answer .given .1)
+    power-on-held (start .args .part) (start .args .memory .now) (start .args .bytes .now) (on .power-on .result) (on .power-on .ensures) _ (c .before .answer .given .1)
 
 enum-told : tie.Need-enum-told
 enum-told c = search needs
@@ -31,7 +31,7 @@ returns c =
     let told = c .before .before in
     let on = told .before .before .before in
     let start = on .before .before .before in
-    let done = power-on-short (start .args .memory .now) (start .args .bytes .now) (on .power-on .result) (on .power-on .ensures)
+    let done = power-on-short (start .args .part) (start .args .memory .now) (start .args .bytes .now) (on .power-on .result) (on .power-on .ensures)
     (told .enum-told .given .1) (c .before .if1 .taken) in
     (c .refused-code2 .ensures ∙ done .0, done .1)
 
@@ -46,7 +46,7 @@ returns-2 c =
     let told = c .before .before in
     let on = told .before .before .before in
     let start = on .before .before .before in
-    let done = power-on-refused (start .args .memory .now) (start .args .bytes .now) (on .power-on .result) (on .power-on .ensures) _
+    let done = power-on-refused (start .args .part) (start .args .memory .now) (start .args .bytes .now) (on .power-on .result) (on .power-on .ensures) _
     (told .answer .given .1) in
     (c .refused-code .ensures ∙ done .0, done .1)
 
@@ -60,7 +60,7 @@ returns-3 c =
     let told = room .before in
     let on = told .before .before .before in
     let start = on .before .before .before in
-    power-on-done (start .args .memory .now) (start .args .bytes .now) (on .power-on .result) (on .power-on .ensures) _
+    power-on-done (start .args .part) (start .args .memory .now) (start .args .bytes .now) (on .power-on .result) (on .power-on .ensures) _
     (told .enum-told .given .1) (room .if1 .left) (written .write .ensures .1)
 
 pub ht1621-power-on-spec : {M : Type 1} → statement M

@@ -109,8 +109,8 @@ source-to-requires-3 c κs = search needs
 enum-known-command : tie.Need-enum-known-command
 enum-known-command c = search needs
 
-display-to-requires : tie.Need-display-to-requires
-display-to-requires c κs = search needs
+glass-to-requires : tie.Need-glass-to-requires
+glass-to-requires c κs = search needs
 
 enum-told-16 : tie.Need-enum-told-16
 enum-told-16 c = search needs
@@ -219,7 +219,7 @@ returns-15 c = simp (c .source-to3 .ensures, c .before .enum-told15 .given .1)
 
 returns-16 : tie.Need-returns-16
 unfolding effect
-returns-16 c = simp (c .display-to .ensures, c .before .before .command .given .1)
+returns-16 c = simp (c .glass-to .ensures, c .before .before .command .given .1)
 
 returns-17 : tie.Need-returns-17
 unfolding effect
@@ -288,7 +288,7 @@ obeyed-spec =
     enum-told-15
     source-to-requires-3
     enum-known-command
-    display-to-requires
+    glass-to-requires
     enum-told-16
     pitch-to-requires
     enum-told-17

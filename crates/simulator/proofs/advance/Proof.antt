@@ -41,7 +41,7 @@ same-length-2 c = search needs
 returns-2 : tie.Need-returns-2
 returns-2 c =
     let written = c .before .before in
-    let ticked = written .before .before .before in
+    let ticked = written .before .before in
     let told = ticked .before .before in
     let read = told .before .before in
     let start = read .before .before .before in

@@ -1,8 +1,9 @@
 -- `state::read` meets its contract: length and memory decide, then the settings' ranges, the frame, and the settings.
 -- Assumes nothing.
 use mathlib.Core.Path.{_∙_, sym}
+use native.Mathlib.Omega.{arith}
 use borrow.Author.Tests.{not-true, not-false}
-use Rattle.state.proofs.RecordLaws.{read-begins, read-above, read-frame, read-settings, read-whole}
+use Rattle.state.proofs.RecordLaws.{as-long, read-begins, read-wrong, read-frame, read-settings, read-whole}
 use borrow.Author.Needs.{needs}
 use Rattle.state.proofs.read.Statement.{statement}
 use Rattle.state.proofs.read.Tie as tie
@@ -19,8 +20,8 @@ returns c =
     c .nothing-recalled .ensures
     ∙ read-begins (memory .before .before .args .bytes .now) (sym (memory .memory-right .ensures) ∙ not-true _ (c .before .if1 .taken))
 
-in-range-requires : tie.Need-in-range-requires
-in-range-requires c κs = search needs
+settings-right-requires : tie.Need-settings-right-requires
+settings-right-requires c κs = search needs
 
 nothing-recalled-requires-2 : tie.Need-nothing-recalled-requires-2
 nothing-recalled-requires-2 c κs = search needs
@@ -30,8 +31,8 @@ returns-2 c =
     let range = c .before .before in
     let memory = range .before .before in
     c .nothing-recalled2 .ensures
-    ∙ read-above (memory .before .before .args .bytes .now) (sym (memory .memory-right .ensures) ∙ not-false _ (range .before .if1 .left))
-    (sym (range .in-range .ensures) ∙ not-true _ (c .before .if2 .taken))
+    ∙ read-wrong (memory .before .before .args .bytes .now) (sym (memory .memory-right .ensures) ∙ not-false _ (range .before .if1 .left))
+    (sym (range .settings-right .ensures) ∙ not-true _ (c .before .if2 .taken))
 
 frame-in-requires : tie.Need-frame-in-requires
 frame-in-requires c κs = search needs
@@ -54,8 +55,35 @@ returns-3 c =
     ∙ read-frame (memory .before .before .args .bytes .now) (sym (memory .memory-right .ensures) ∙ not-false _ (range .before .if1 .left))
     (sym (frame .frame-in .ensures) ∙ c .before .enum-told .given .1)
 
-part-in-requires : tie.Need-part-in-requires
-part-in-requires c κs = search needs
+shared-slice-read-part-of : tie.Need-shared-slice-read-part-of
+shared-slice-read-part-of c =
+    let framed = c .before .before in
+    let frame = framed .before .before in
+    let range = frame .before .before in
+    let memory = range .before .before in
+    omega (arith, as-long (memory .before .before .args .bytes .now) (sym (memory .memory-right .ensures) ∙ not-false _ (range .before .if1 .left)))
+
+shared-slice-read-t14 : tie.Need-shared-slice-read-t14
+shared-slice-read-t14 c =
+    let framed = c .before .before .before in
+    let frame = framed .before .before in
+    let range = frame .before .before in
+    let memory = range .before .before in
+    omega (arith, as-long (memory .before .before .args .bytes .now) (sym (memory .memory-right .ensures) ∙ not-false _ (range .before .if1 .left)))
+
+shared-slice-read-part-of-2 : tie.Need-shared-slice-read-part-of-2
+shared-slice-read-part-of-2 c =
+    let framed = c .before .before .before .before in
+    let frame = framed .before .before in
+    let range = frame .before .before in
+    let memory = range .before .before in
+    omega (arith, as-long (memory .before .before .args .bytes .now) (sym (memory .memory-right .ensures) ∙ not-false _ (range .before .if1 .left)))
+
+part-of-requires : tie.Need-part-of-requires
+part-of-requires c κs = search needs
+
+settings-from-requires : tie.Need-settings-from-requires
+settings-from-requires c κs = search needs
 
 enum-known-settings : tie.Need-enum-known-settings
 enum-known-settings c = search needs
@@ -69,14 +97,15 @@ nothing-recalled-requires-4 c κs = search needs
 returns-4 : tie.Need-returns-4
 returns-4 c =
     let settings = c .before .before .before in
-    let framed = settings .before .before in
+    let parted = settings .before in
+    let framed = parted .before .before .before .before .before in
     let frame = framed .before .before in
     let range = frame .before .before in
     let memory = range .before .before in
     c .nothing-recalled4 .ensures
     ∙ read-settings (memory .before .before .args .bytes .now) (sym (memory .memory-right .ensures) ∙ not-false _ (range .before .if1 .left))
-    (sym (range .in-range .ensures) ∙ not-false _ (frame .before .if2 .left)) _ _ _ (sym (frame .frame-in .ensures) ∙ framed .levels .given .1)
-    (sym (settings .part-in .ensures) ∙ c .before .enum-told2 .given .1)
+    (sym (range .settings-right .ensures) ∙ not-false _ (frame .before .if2 .left)) _ _ _ (sym (frame .frame-in .ensures) ∙ framed .levels .given .1)
+    (sym (rw (parted .part-of .ensures) at (settings .settings-from .ensures)) ∙ c .before .enum-told2 .given .1)
 
 memory-from-requires : tie.Need-memory-from-requires
 memory-from-requires c κs = search needs
@@ -85,13 +114,14 @@ returns-5 : tie.Need-returns-5
 returns-5 c =
     let set = c .before .before in
     let settings = set .before .before in
-    let framed = settings .before .before in
+    let parted = settings .before in
+    let framed = parted .before .before .before .before .before in
     let frame = framed .before .before in
     let range = frame .before .before in
     let memory = range .before .before in
     read-whole (memory .before .before .args .bytes .now) (sym (memory .memory-right .ensures) ∙ not-false _ (range .before .if1 .left))
-    (sym (range .in-range .ensures) ∙ not-false _ (frame .before .if2 .left)) _ _ _ (sym (frame .frame-in .ensures) ∙ framed .levels .given .1) _ _
-    (sym (settings .part-in .ensures) ∙ set .settings .given .1) (c .memory-from .ensures)
+    (sym (range .settings-right .ensures) ∙ not-false _ (frame .before .if2 .left)) _ _ _ (sym (frame .frame-in .ensures) ∙ framed .levels .given .1) _ _
+    (sym (rw (parted .part-of .ensures) at (settings .settings-from .ensures)) ∙ set .settings .given .1) (c .memory-from .ensures)
 
 pub read-spec : {M : Type 1} → statement M
 read-spec =
@@ -100,7 +130,7 @@ read-spec =
     memory-right-requires
     nothing-recalled-requires
     returns
-    in-range-requires
+    settings-right-requires
     nothing-recalled-requires-2
     returns-2
     frame-in-requires
@@ -108,7 +138,11 @@ read-spec =
     enum-told
     nothing-recalled-requires-3
     returns-3
-    part-in-requires
+    shared-slice-read-part-of
+    shared-slice-read-t14
+    shared-slice-read-part-of-2
+    part-of-requires
+    settings-from-requires
     enum-known-settings
     enum-told-2
     nothing-recalled-requires-4

@@ -17,8 +17,8 @@ put-memory-requires c κs = search needs
 write-frame-requires : tie.Need-write-frame-requires
 write-frame-requires c κs = search needs
 
-write-part-requires : tie.Need-write-part-requires
-write-part-requires c κs = search needs
+write-settings-requires : tie.Need-write-settings-requires
+write-settings-requires c κs = search needs
 
 same-length : tie.Need-same-length
 same-length c = search needs
@@ -35,7 +35,7 @@ returns-2 c =
       simp (le-ltb _ _ (long .if1 .left)),
       rw (le-ltb _ _ (long .if1 .left))
           (put-record (start .chip .port) (start .out .now) _ _ (memory .put-memory .ensures .0) (long .if1 .left)
-          (memory .put-memory .ensures .1) (frame .write-frame .ensures .1) (start .chip .settings) _ (settings .write-part .ensures .1)),
+          (memory .put-memory .ensures .1) (frame .write-frame .ensures .1) (start .chip .settings) _ (settings .write-settings .ensures .1)),
     )
 
 pub write-spec : {M : Type 1} → statement M
@@ -45,6 +45,6 @@ write-spec =
     returns
     put-memory-requires
     write-frame-requires
-    write-part-requires
+    write-settings-requires
     same-length
     returns-2)
