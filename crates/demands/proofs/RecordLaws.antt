@@ -13,7 +13,6 @@ use Rattle.ground.specs.Written.{byte}
 use Rattle.ground.specs.Parts.{partNumber, parts}
 use Rattle.ground.specs.declared.Part.the-variants.{Ht}
 use Rattle.ground.proofs.CodesLaws.{caseOf-again}
-use Rattle.ground.proofs.PartsLaws.{part-right}
 use native.Mathlib.Omega.{arith}
 use Rattle.settings.proofs.BytesLaws.{settings-has}
 use Rattle.settings.specs.declared.Settings.{Settings}
@@ -99,7 +98,7 @@ module _ (b : List ℕ) (valid : recordValid b ≡ true) where
   unfolding chipOf
   part-byte =
       let has = settings-has b (valid-has b valid .long) (valid-has b valid .settings) in
-      caseOf-again partNumber Ht (byte b 58) parts (part-right (byte b 58) (has .within 18 (omega arith)))
+      caseOf-again partNumber Ht (byte b 58) parts (has .part)
 
   opening-told : answerCode (firstAnswer (c .port)) ∷ 1 ∷ [] ≡ openingReturns b
   opening-told =

@@ -100,8 +100,8 @@ pub record Accepted : Type 0 where
   pub advance : (bytes : List ℕ) → advanceReturns bytes ≡ numberBy (advanceTable bytes) 0
   pub pins : (bytes cells : List ℕ) → pinsReturns bytes cells ≡ numberBy (pinsTable bytes cells) (pinsCode (pinsShown (chipOf bytes)))
 
--- Which range was wrong, whatever else is at fault, but for the part, which commands are asked for first, and in any room. It is said of every first address and every count, so of 2^64 - 1
--- for both, whose sum 64 bits do not hold.
+-- Which range was wrong, whatever else is at fault, but for the part, of which commands are asked first, and in any room. It is said of
+-- every first address and every count, so of 2^64 - 1 for both, whose sum 64 bits do not hold.
 pub record WhichRange : Type 0 where
   -- a first address above 31, whatever the count from 1 up
   pub writeAddress : (first : ℕ) (nibbles : List ℕ) (room : ℕ) → 31 < first → 0 < length nibbles

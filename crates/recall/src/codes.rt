@@ -1,101 +1,71 @@
-// Coded bytes of the settings, each read to the case that it stands for; a code that is none's to any. Of three of them the
-// ranges do not tell whether the code is one: `is_bias`, `is_commons` and `is_pitch` do.
+// Coded bytes of the settings, each read to the case that it stands for.
 ghost use mathlib.Core.Path.{_≡_};
-ghost use Rattle.ground.specs.Codes.{isCode};
-ghost use Rattle.commands.specs.Numbers.{biasNumber, commonsNumber};
-ghost use Rattle.settings.specs.Numbers.{pitchNumber};
-ghost use Rattle.settings.specs.Selections.{sourceIn, biases, biasIn, commonses, commonsIn, pitches, pitchIn, irqSourceIn};
+ghost use Rattle.settings.specs.Selections.{sourceRead, biasRead, commonsRead, pitchRead, irqSourceRead};
 use clock::Source;
 use commands::Bias;
 use commands::Commons;
+use settings::BiasRead;
+use settings::CommonsRead;
 use settings::IrqSource;
+use settings::IrqSourceRead;
 use settings::Pitch;
+use settings::PitchRead;
+use settings::SourceRead;
 
 // Byte 41.
-pub(crate) fn source_of(code: u8) -> Source
-    ensures { λ r. ⌜ r ≡ sourceIn code ⌝ }
+pub(crate) fn source_of(code: u8) -> SourceRead
+    ensures { λ r. ⌜ r ≡ sourceRead code ⌝ }
 {
     match code {
-        0 => Source::Xtal,
-        1 => Source::Rc,
-        2 => Source::Ext,
-        _ => Source::Ext,
+        0 => SourceRead::From(Source::Xtal),
+        1 => SourceRead::From(Source::Rc),
+        2 => SourceRead::From(Source::Ext),
+        _ => SourceRead::NoSource,
     }
 }
 
 // Byte 43.
-pub(crate) fn bias_of(code: u8) -> Bias
-    ensures { λ r. ⌜ r ≡ biasIn code ⌝ }
+pub(crate) fn bias_of(code: u8) -> BiasRead
+    ensures { λ r. ⌜ r ≡ biasRead code ⌝ }
 {
     match code {
-        2 => Bias::Half,
-        3 => Bias::Third,
-        _ => Bias::Half,
-    }
-}
-
-pub(crate) fn is_bias(code: u8) -> bool
-    ensures { λ r. ⌜ r ≡ isCode biasNumber biases code ⌝ }
-{
-    match code {
-        2 => true,
-        3 => true,
-        _ => false,
+        2 => BiasRead::Biased(Bias::Half),
+        3 => BiasRead::Biased(Bias::Third),
+        _ => BiasRead::NoBias,
     }
 }
 
 // Byte 44.
-pub(crate) fn commons_of(code: u8) -> Commons
-    ensures { λ r. ⌜ r ≡ commonsIn code ⌝ }
+pub(crate) fn commons_of(code: u8) -> CommonsRead
+    ensures { λ r. ⌜ r ≡ commonsRead code ⌝ }
 {
     match code {
-        2 => Commons::Two,
-        3 => Commons::Three,
-        4 => Commons::Four,
-        _ => Commons::Two,
-    }
-}
-
-pub(crate) fn is_commons(code: u8) -> bool
-    ensures { λ r. ⌜ r ≡ isCode commonsNumber commonses code ⌝ }
-{
-    match code {
-        2 => true,
-        3 => true,
-        4 => true,
-        _ => false,
+        2 => CommonsRead::Has(Commons::Two),
+        3 => CommonsRead::Has(Commons::Three),
+        4 => CommonsRead::Has(Commons::Four),
+        _ => CommonsRead::NoCommons,
     }
 }
 
 // Byte 46.
-pub(crate) fn pitch_of(code: u8) -> Pitch
-    ensures { λ r. ⌜ r ≡ pitchIn code ⌝ }
+pub(crate) fn pitch_of(code: u8) -> PitchRead
+    ensures { λ r. ⌜ r ≡ pitchRead code ⌝ }
 {
     match code {
-        4 => Pitch::FourK,
-        2 => Pitch::TwoK,
-        _ => Pitch::FourK,
-    }
-}
-
-pub(crate) fn is_pitch(code: u8) -> bool
-    ensures { λ r. ⌜ r ≡ isCode pitchNumber pitches code ⌝ }
-{
-    match code {
-        4 => true,
-        2 => true,
-        _ => false,
+        4 => PitchRead::Sounds(Pitch::FourK),
+        2 => PitchRead::Sounds(Pitch::TwoK),
+        _ => PitchRead::NoPitch,
     }
 }
 
 // Byte 50.
-pub(crate) fn irq_source_of(code: u8) -> IrqSource
-    ensures { λ r. ⌜ r ≡ irqSourceIn code ⌝ }
+pub(crate) fn irq_source_of(code: u8) -> IrqSourceRead
+    ensures { λ r. ⌜ r ≡ irqSourceRead code ⌝ }
 {
     match code {
-        0 => IrqSource::Neither,
-        1 => IrqSource::TimeBase,
-        2 => IrqSource::Flag,
-        _ => IrqSource::Flag,
+        0 => IrqSourceRead::Of(IrqSource::Neither),
+        1 => IrqSourceRead::Of(IrqSource::TimeBase),
+        2 => IrqSourceRead::Of(IrqSource::Flag),
+        _ => IrqSourceRead::NoIrqSource,
     }
 }

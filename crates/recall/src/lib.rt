@@ -2,8 +2,7 @@
 ghost use mathlib.Core.Path.{_≡_};
 ghost use lib.ListN.{length};
 ghost use Rattle.ground.specs.Sizes.{recordLength};
-ghost use Rattle.ground.specs.Parts.{partOf};
-ghost use Rattle.settings.specs.Bytes.{scanFits, settingsHeld, settingsOf, settingsRead};
+ghost use Rattle.settings.specs.Bytes.{scanFits, settingsInRange, settingsOf, selectionsRead, settingsRead};
 
 mod codes; // codes.rt: coded bytes, each read to a case
 
@@ -18,11 +17,17 @@ use clock::Watchdog;
 use ground::Part;
 use ground::RECORD_LENGTH;
 use settings::Base;
+use settings::BiasRead;
+use settings::CommonsRead;
 use settings::Irq;
+use settings::IrqSourceRead;
 use settings::Lcd;
+use settings::PitchRead;
 use settings::SETTINGS_AT;
+use settings::SelectionsRead;
 use settings::Settings;
 use settings::SettingsRead;
+use settings::SourceRead;
 use settings::System;
 use settings::Tone;
 use settings::offsets;
@@ -30,15 +35,15 @@ use settings::offsets;
 // How many bytes the settings have in a record.
 const LENGTH: usize = RECORD_LENGTH - SETTINGS_AT;
 
-// The most that each of the settings' bytes can be, as far as that is all there is to ask of it.
+// The most that each of the settings' bytes can be.
 const MAXIMA: [u8; LENGTH] = [
     1, // 40 system
     2, // 41 source
     1, // 42 LCD
-    255, // 43 bias, asked for below
-    255, // 44 commons, likewise
+    3, // 43 bias
+    4, // 44 commons
     1, // 45 tone
-    255, // 46 its frequency, likewise
+    4, // 46 its frequency
     1, // 47 IRQ output
     7, // 48 rate
     1, // 49 time base
@@ -51,8 +56,8 @@ const MAXIMA: [u8; LENGTH] = [
     (clock::WATCHDOG_SIZE - 1) as u8, // 56 w
     1, // 57 test
     1, // 58 part
-    255, // 59 the scan's counter, likewise
-    255, // 60 the common scanned, likewise
+    255, // 59 the scan's counter, which goes by the part: `scan_fits`
+    255, // 60 the common scanned, which goes by the commons: likewise
     0, // 61 to 63 zero
     0,
     0,
@@ -71,9 +76,10 @@ fn scan_fits(part: u8, commons: u8, counter: u8, common: u8) -> bool
     (counter as u16) < clock::HT_SCAN_SIZE
 }
 
-// Whether a record's bytes 40 to 63 are right. Apart from `settings_from`, which is then small enough to be put into its callers.
-pub fn settings_right(bytes: &[u8]) -> bool
-    ensures { λ r. ⌜ r ≡ settingsHeld (now (bytes .entry)) ⌝ }
+// Whether each of a record's bytes 40 to 63 is in range. Apart from `settings_from`, which is then small enough to be put into its
+// callers.
+pub fn in_range(bytes: &[u8]) -> bool
+    ensures { λ r. ⌜ r ≡ settingsInRange (now (bytes .entry)) ⌝ }
 {
     if bytes.len() != RECORD_LENGTH {
         return false;
@@ -86,22 +92,35 @@ pub fn settings_right(bytes: &[u8]) -> bool
         }
         i += 1;
     }
-    let commons = bytes[offsets::COMMONS];
-    if !scan_fits(
+    scan_fits(
         bytes[offsets::PART],
-        commons,
+        bytes[offsets::COMMONS],
         bytes[offsets::SCAN],
         bytes[offsets::COMMON],
-    ) {
-        return false;
-    }
-    if !codes::is_bias(bytes[offsets::BIAS]) {
-        return false;
-    }
-    if !codes::is_commons(commons) {
-        return false;
-    }
-    codes::is_pitch(bytes[offsets::PITCH])
+    )
+}
+
+// The selections, if each is one of its cases.
+fn selections_in(bytes: &[u8]) -> SelectionsRead
+    requires { ⌜ length (now bytes) ≡ recordLength ⌝ }
+    ensures { λ r. ⌜ r ≡ selectionsRead (now (bytes .entry)) ⌝ }
+{
+    let SourceRead::From(source) = codes::source_of(bytes[offsets::SOURCE]) else {
+        return SelectionsRead::NoSelections;
+    };
+    let BiasRead::Biased(bias) = codes::bias_of(bytes[offsets::BIAS]) else {
+        return SelectionsRead::NoSelections;
+    };
+    let CommonsRead::Has(commons) = codes::commons_of(bytes[offsets::COMMONS]) else {
+        return SelectionsRead::NoSelections;
+    };
+    let PitchRead::Sounds(pitch) = codes::pitch_of(bytes[offsets::PITCH]) else {
+        return SelectionsRead::NoSelections;
+    };
+    let IrqSourceRead::Of(irq) = codes::irq_source_of(bytes[offsets::IRQ_SOURCE]) else {
+        return SelectionsRead::NoSelections;
+    };
+    SelectionsRead::Selected(source, bias, commons, pitch, irq)
 }
 
 // Bytes 51 to 56.
@@ -131,42 +150,34 @@ fn counters_of(bytes: &[u8]) -> Counters
     }
 }
 
-// The part that byte 58 says.
-pub fn part_of(code: u8) -> Part
-    ensures { λ r. ⌜ r ≡ partOf code ⌝ }
-{
-    match code {
-        0 => Part::Ht,
-        1 => Part::Gn,
-        _ => Part::Ht,
-    }
-}
-
-// The settings that bytes 40 to 57 say, of bytes as many as a record's, with a scan and a part that were read before: with these two in
-// it, it would not be put into its callers.
+// The settings that a record's bytes 40 to 57 say, if each selection is one of its cases, with a scan and a part that were read before:
+// with these two in it, it would not be put into its callers.
 pub fn settings_from(bytes: &[u8], scan: Scan, part: Part) -> SettingsRead
     ensures { λ r. ⌜ r ≡ settingsRead (now (bytes .entry)) scan part ⌝ }
 {
     if bytes.len() != RECORD_LENGTH {
         return SettingsRead::NoSettings;
     }
+    let SelectionsRead::Selected(source, bias, commons, pitch, irq) = selections_in(bytes) else {
+        return SettingsRead::NoSettings;
+    };
     SettingsRead::Set(Settings {
         system: System {
             on: bytes[offsets::SYSTEM] == 1,
-            source: codes::source_of(bytes[offsets::SOURCE]),
+            source,
         },
         lcd: Lcd {
             on: bytes[offsets::LCD] == 1,
-            bias: codes::bias_of(bytes[offsets::BIAS]),
-            commons: codes::commons_of(bytes[offsets::COMMONS]),
+            bias,
+            commons,
         },
         tone: Tone {
             on: bytes[offsets::TONE] == 1,
-            pitch: codes::pitch_of(bytes[offsets::PITCH]),
+            pitch,
         },
         irq: Irq {
             on: bytes[offsets::IRQ] == 1,
-            source: codes::irq_source_of(bytes[offsets::IRQ_SOURCE]),
+            source: irq,
         },
         base: Base {
             on: bytes[offsets::TIME_BASE] == 1,

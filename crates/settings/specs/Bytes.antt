@@ -13,18 +13,18 @@ use Rattle.ground.specs.declared.Part.{Part}
 use Rattle.ground.specs.declared.Part.the-variants.{Ht}
 use Rattle.clock.specs.Sizes.{prescalerSize, tonerSize, dividerSize, baseSize, watchdogSize, scanSize}
 use Rattle.clock.specs.Numbers.{sourceNumber}
-use Rattle.clock.specs.declared.Source.the-variants.{Ext}
 use Rattle.clock.specs.declared.Counters.{Counters}
 use Rattle.clock.specs.declared.Scan.{Scan}
 use Rattle.commands.specs.Numbers.{biasNumber, commonsNumber}
-use Rattle.settings.specs.declared.IrqSource.the-variants.{Flag}
 use Rattle.settings.specs.declared.Settings.{Settings}
+use Rattle.settings.specs.declared.SelectionsRead.{SelectionsRead}
+use Rattle.settings.specs.declared.SelectionsRead.the-variants.{Selected, NoSelections}
 use Rattle.settings.specs.declared.SettingsRead.{SettingsRead}
 use Rattle.settings.specs.declared.SettingsRead.the-variants.{Set, NoSettings}
 use Rattle.settings.specs.Numbers.{pitchNumber, irqSourceNumber}
 use Rattle.settings.specs.Settings.{systemTo, sourceTo, lcdTo, displayTo, toneTo, pitchTo, irqTo, irqSourceTo, timeBaseTo, rateTo, prescalerTo, tonerTo, dividerTo, baseTo, watchdogTo, flagTo, scanCountTo, commonTo, countersTo, testTo, scanTo, partTo, powerOn}
 use Rattle.settings.specs.Selections.{sources, biases, commonses, pitches, irqSources}
-use Rattle.settings.specs.Fields.{Field, switch, count, selection, numbered, spare, bytesOf, maxima, allKnown, readFrom}
+use Rattle.settings.specs.Fields.{Field, switch, count, selection, spare, bytesOf, maxima, allKnown, readFrom}
 
 -- Where a record has the settings' bytes, after the memory and the frame's eight, and where among them the counters begin.
 abbrev pub settingsAt : ℕ
@@ -60,7 +60,7 @@ ofCounters field =
 abbrev pub switchFields : List (Field Settings)
 switchFields =
     switch (λ s. s .system .on) systemTo
-    ∷ numbered sourceNumber sources Ext (λ s. s .system .source) sourceTo
+    ∷ selection sourceNumber sources (λ s. s .system .source) sourceTo
     ∷ switch (λ s. s .lcd .on) lcdTo
     ∷ selection biasNumber biases (λ s. s .lcd .bias) (λ bias s. displayTo bias (s .lcd .commons) s)
     ∷ selection commonsNumber commonses (λ s. s .lcd .commons) (λ commons s. displayTo (s .lcd .bias) commons s)
@@ -69,7 +69,7 @@ switchFields =
     ∷ switch (λ s. s .irq .on) irqTo
     ∷ count 8 (λ s. s .base .rate) rateTo
     ∷ switch (λ s. s .base .on) timeBaseTo
-    ∷ numbered irqSourceNumber irqSources Flag (λ s. s .irq .source) irqSourceTo
+    ∷ selection irqSourceNumber irqSources (λ s. s .irq .source) irqSourceTo
     ∷ []
 
 -- Bytes 51 to 63: those that ticks change, with the test mark and the part between them, and three that are not used. What the scan can be
@@ -78,7 +78,7 @@ abbrev pub tickFields : List (Field Settings)
 tickFields =
     map ofCounters counterFields
     ++ (switch (λ s. s .test) testTo
-    ∷ numbered partNumber parts Ht (λ s. s .part) partTo
+    ∷ selection partNumber parts (λ s. s .part) partTo
     ∷ count 256 (λ s. s .scan .count) scanCountTo
     ∷ count 256 (λ s. s .scan .common) commonTo
     ∷ spare ∷ spare ∷ spare ∷ [])
@@ -114,28 +114,36 @@ unfoldable pub scanFits : ℕ → ℕ → ℕ → ℕ → Bool
 scanFits part commons counter common = ltb common commons && ltb counter (scanSize (partOf part))
 
 module _ (b : List ℕ) where
-  -- Each selection that a range alone does not tell is one of its cases: bytes 43, 44 and 46.
-  abbrev pub selectionsKnown : Bool
-  selectionsKnown = allKnown b settingsAt settingsFields
-
   abbrev pub scanRight : Bool
   scanRight = scanFits (byte b 58) (byte b 44) (byte b 59) (byte b 60)
 
-  -- Each byte is in range, the scan right, and each selection one of its cases.
+  -- Each byte is in range, the scan's by the others, and each selection and the part one of their cases.
   unfoldable pub settingsRight : Bool
-  settingsRight = upTo (drop settingsAt b) settingsMaxima && scanRight && selectionsKnown
+  settingsRight = upTo (drop settingsAt b) settingsMaxima && scanRight && allKnown b settingsAt settingsFields
 
-  -- The same of a list that has to be as long as a record.
-  abbrev pub settingsHeld : Bool
-  settingsHeld = eqb (length b) recordLength && settingsRight
+  -- The ranges by themselves, in a list that is as long as a record.
+  abbrev pub settingsInRange : Bool
+  settingsInRange = eqb (length b) recordLength && (upTo (drop settingsAt b) settingsMaxima && scanRight)
+
+  -- And the selections by themselves, which are among bytes 40 to 50.
+  abbrev pub selectionsKnown : Bool
+  selectionsKnown = allKnown b settingsAt switchFields
 
   -- Each byte in turn changes what it stands for, so that of right bytes nothing is left of where they begin.
   abbrev pub settingsOf : Settings
   settingsOf = readFrom b settingsAt settingsFields (powerOn Ht)
 
-  -- The settings in a list that is as long as a record, with a scan and a part that were read before.
+  unfoldable pub selectionsRead : SelectionsRead
+  selectionsRead =
+      cond selectionsKnown
+      (Selected (settingsOf .system .source) (settingsOf .lcd .bias) (settingsOf .lcd .commons) (settingsOf .tone .pitch)
+      (settingsOf .irq .source))
+      NoSelections
+
+  -- The settings in a list that is as long as a record and has known selections there, with a scan and a part that were read before.
   unfoldable pub settingsRead : Scan → Part → SettingsRead
-  settingsRead scan part = cond (eqb (length b) recordLength) (Set (partTo part (scanTo scan settingsOf))) NoSettings
+  settingsRead scan part =
+      cond (eqb (length b) recordLength && selectionsKnown) (Set (partTo part (scanTo scan settingsOf))) NoSettings
 
   -- The scan that the bytes say.
   abbrev pub scanOf : Scan

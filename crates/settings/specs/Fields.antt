@@ -35,25 +35,14 @@ module _ {X : Type 0} (number : X → ℕ) where
   largest [] = 0
   largest (first ∷ cases) = max (number first) (largest cases)
 
-  -- A selection is the number of one of its cases, and any other byte is not known.
+  -- A selection is the number of one of its cases.
   abbrev pub selection : {A : Type 0} → List X → (A → X) → (X → A → A) → Field A
   selection cases get to =
       record {
         written = λ a. number (get a);
-        most = 255;
+        most = largest cases;
         known = isCode number cases;
         readInto = λ n a. to (caseOf number cases (get a) n) a;
-      }
-
-  -- One whose cases have the numbers from 0 on without a gap is known by its most alone; a higher code would be read as the case that is
-  -- given with them.
-  abbrev pub numbered : {A : Type 0} → List X → X → (A → X) → (X → A → A) → Field A
-  numbered cases other get to =
-      record {
-        written = λ a. number (get a);
-        most = largest cases;
-        known = λ n. true;
-        readInto = λ n. to (caseOf number cases other n);
       }
 
 -- ---- what follows from a list of them

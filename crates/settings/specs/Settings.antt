@@ -125,7 +125,8 @@ commonTo n s = scanTo (record { count = s .scan .count; common = n }) s
 abbrev pub partTo : Part → Settings → Settings
 partTo x s = record { system = s .system; lcd = s .lcd; tone = s .tone; irq = s .irq; base = s .base; counters = s .counters; test = s .test; scan = s .scan; part = x }
 
--- RULES "Commands", power-on of a part: all switches off, RC, F128, no IRQ source, all counters 0; the house adds bias 1/2, 2 commons and 4 kHz.
+-- RULES "Commands", power-on of a part: all switches off, RC, F128, no IRQ source, all counters 0; the house adds bias 1/2, 2 commons and
+-- 4 kHz.
 abbrev pub powerOn : Part → Settings
 powerOn part =
     record {

@@ -102,6 +102,38 @@ impl IrqSource {
     }
 }
 
+// What the coded byte of each selection reads to.
+pub enum SourceRead {
+    From(Source),
+    NoSource,
+}
+
+pub enum BiasRead {
+    Biased(Bias),
+    NoBias,
+}
+
+pub enum CommonsRead {
+    Has(Commons),
+    NoCommons,
+}
+
+pub enum PitchRead {
+    Sounds(Pitch),
+    NoPitch,
+}
+
+pub enum IrqSourceRead {
+    Of(IrqSource),
+    NoIrqSource,
+}
+
+// What they read to together.
+pub enum SelectionsRead {
+    Selected(Source, Bias, Commons, Pitch, IrqSource),
+    NoSelections,
+}
+
 // What the settings' bytes read to.
 pub enum SettingsRead {
     Set(Settings),

@@ -15,12 +15,14 @@ use Rattle.ground.specs.declared.Part.the-variants.{Ht}
 use Rattle.ground.specs.Parts.{partNumber, parts}
 use Rattle.ground.specs.Ranges.{upTo}
 use Rattle.ground.proofs.ChoiceLaws.{and-both}
+use Rattle.ground.proofs.PartsLaws.{part-right}
 use Rattle.ground.proofs.WrittenLaws.{gathered}
+use Rattle.clock.specs.Numbers.{sourceNumber}
 use Rattle.clock.specs.Sizes.{scanSize}
 use Rattle.commands.specs.Numbers.{biasNumber, commonsNumber}
 use Rattle.phases.specs.Frame.{inRange, goesWithCs, mostBits, bitsRight, restRight, frameRight, frameFits}
-use Rattle.settings.specs.Numbers.{pitchNumber}
-use Rattle.settings.specs.Selections.{biases, commonses, pitches}
+use Rattle.settings.specs.Numbers.{pitchNumber, irqSourceNumber}
+use Rattle.settings.specs.Selections.{sources, biases, commonses, pitches, irqSources}
 use Rattle.settings.specs.Bytes.{settingsMaxima, scanFits, scanRight, settingsRight}
 use Rattle.settings.proofs.BytesLaws.{scan-small}
 use Rattle.state.specs.Record.{memoryFits, recordValid}
@@ -36,6 +38,12 @@ bias-right n (inr e) = rw e
 pitch-right : (n : ℕ) → (n ≡ 4) ⊎ (n ≡ 2) → isCode pitchNumber pitches n ≡ true
 pitch-right n (inl e) = rw e
 pitch-right n (inr e) = rw e
+
+source-right : (n : ℕ) → n ≤ 2 → isCode sourceNumber sources n ≡ true
+source-right n h = agree (λ (k : ℕ). isCode sourceNumber sources k) (λ (k : ℕ). true) 3 refl n (omega arith)
+
+irqSource-right : (n : ℕ) → n ≤ 2 → isCode irqSourceNumber irqSources n ≡ true
+irqSource-right n h = agree (λ (k : ℕ). isCode irqSourceNumber irqSources k) (λ (k : ℕ). true) 3 refl n (omega arith)
 
 commons-right : (n : ℕ) → 2 ≤ n → n ≤ 4 → isCode commonsNumber commonses n ≡ true
 commons-right n h k =
@@ -89,10 +97,10 @@ module _ (bytes : List ℕ) (size : length bytes ≡ 64) (r : ChipBytes bytes) (
         le-leb (byte bytes 40) 1 (r .system),
         le-leb (byte bytes 41) 2 (r .source),
         le-leb (byte bytes 42) 1 (r .lcd),
-        le-leb (byte bytes 43) 255 (⊎-elim (λ e. omega (arith, e)) (λ e. omega (arith, e)) (r .bias)),
-        le-leb (byte bytes 44) 255 (omega (arith, r .commons .1)),
+        le-leb (byte bytes 43) 3 (⊎-elim (λ e. omega (arith, e)) (λ e. omega (arith, e)) (r .bias)),
+        le-leb (byte bytes 44) 4 (r .commons .1),
         le-leb (byte bytes 45) 1 (r .tone),
-        le-leb (byte bytes 46) 255 (⊎-elim (λ e. omega (arith, e)) (λ e. omega (arith, e)) (r .pitch)),
+        le-leb (byte bytes 46) 4 (⊎-elim (λ e. omega (arith, e)) (λ e. omega (arith, e)) (r .pitch)),
         le-leb (byte bytes 47) 1 (r .irqOutput),
         le-leb (byte bytes 48) 7 (r .rate),
         le-leb (byte bytes 49) 1 (r .timeBase),
@@ -160,11 +168,14 @@ module _ (bytes : List ℕ) (size : length bytes ≡ 64) (r : ChipBytes bytes) (
       rw (
         settings-fit,
         scan-right,
+        source-right (byte bytes 41) (r .source),
         bias-right (byte bytes 43) (r .bias),
         commons-right (byte bytes 44) (r .commons .0) (r .commons .1),
         pitch-right (byte bytes 46) (r .pitch),
+        irqSource-right (byte bytes 50) (r .irqSource),
+        part-right (byte bytes 58) (scan .part),
       )
 
   pub well-formed-valid : recordValid bytes ≡ true
   unfolding recordValid
-  well-formed-valid = rw (eq-eqb _ _ (size), memory-fits, frame-fits, settings-right)
+  well-formed-valid = rw (eq-eqb _ _ size, memory-fits, frame-fits, settings-right)

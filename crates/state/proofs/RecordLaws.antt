@@ -1,19 +1,24 @@
 -- Laws that the proofs of this crate's functions cite: bytes put over a buffer, and what reading found. Assumes nothing.
 use mathlib.Core.Path.{_≡_, _∙_, refl, sym, ap}
-use mathlib.Core.Bool.{Bool, true, false, cond, _&&_, true≢false}
+use mathlib.Core.Bool.{Bool, true, false, cond, _&&_, and-true, and-false}
 use mathlib.Core.List.{List, _++_, append-nil}
 use Prim.Native.Nat.{ℕ, _+_, _≤_}
 use native.Mathlib.Omega.{arith}
 use lib.Dec.{ltb, eqb}
-use lib.ListN.{length, take}
+use lib.ListN.{length, take, drop}
 use borrow.Author.Tests.{eqb-true, le-ltb}
 use Rattle.ground.specs.Sizes.{addresses, recordLength}
 use Rattle.ground.specs.declared.Refusal.the-variants.{OutputShort}
 use Rattle.ground.specs.declared.Outcome.the-variants.{Written, Refused}
 use Rattle.ground.specs.Outcomes.{outcomeNumber, writtenAs}
 use Rattle.ground.specs.Written.{byte, over, memoryFrom}
-use Rattle.ground.specs.Parts.{partOf}
+use Rattle.ground.specs.Parts.{partRead}
+use Rattle.ground.specs.Ranges.{upTo}
+use Rattle.ground.specs.declared.Part.{Part}
+use Rattle.ground.specs.declared.Part.the-variants.{Ht}
+use Rattle.ground.specs.declared.PartRead.the-variants.{Known, Unknown}
 use Rattle.ground.proofs.ChoiceLaws.{and-left}
+use Rattle.ground.proofs.PartsLaws.{part-none, part-found}
 use Rattle.ground.proofs.WrittenLaws.{length-over, over-over}
 use Rattle.lines.specs.declared.Levels.{Levels}
 use Rattle.phases.specs.declared.Phase.{Phase}
@@ -22,7 +27,9 @@ use Rattle.phases.specs.declared.FrameRead.the-variants.{Frame, NoFrame}
 use Rattle.phases.specs.Frame.{frameAt, frameOver, frameFits, levelsAt, phaseAt, phaseIn, lineAt, lineIn, holdsFrame, frameRead}
 use Rattle.settings.specs.declared.Settings.{Settings}
 use Rattle.settings.specs.declared.SettingsRead.the-variants.{Set, NoSettings}
-use Rattle.settings.specs.Bytes.{settingsAt, settingsBytes, settingsOver, settingsHeld, settingsRight, settingsOf, settingsRead, scanOf}
+use Rattle.settings.specs.Bytes.{settingsAt, settingsBytes, settingsOver, settingsMaxima, scanRight, selectionsKnown, settingsInRange, settingsRight, settingsOf, settingsRead, scanOf}
+use Rattle.settings.specs.Settings.{scanTo, partTo}
+use Rattle.settings.proofs.BytesLaws.{all-known}
 use Rattle.port.specs.declared.Port.{Port}
 use Rattle.state.specs.declared.Recalled.{Recalled}
 use Rattle.state.specs.declared.Verdict.the-variants as verdict
@@ -121,25 +128,22 @@ module _ (b : List ℕ) (begun : begins b ≡ true) where
   pub as-long : length b ≡ recordLength
   as-long = eqb-true (length b) recordLength long
 
-  wrong : settingsHeld b ≡ false → settingsRight b ≡ false
-  wrong e = rw long at e
+  above : settingsInRange b ≡ false → settingsRight b ≡ false
+  unfolding settingsRight
+  above e = let no : (upTo (drop settingsAt b) settingsMaxima && scanRight b) ≡ false = rw long at e in rw no
 
   -- the last test that fails decides
   last-fails : settingsRight b ≡ false → recordValid b ≡ false
   unfolding recordValid
-  last-fails e = rw (begun, e) (by (frameFits b))
-    where
-      by : (t : Bool) → (t && false) ≡ false
-      by true = refl
-      by false = refl
+  last-fails e = rw (begun, e) (and-false (frameFits b))
 
-  pub read-wrong : settingsHeld b ≡ false → nothingRecalled ≡ recalledFrom b
+  pub read-above : settingsInRange b ≡ false → nothingRecalled ≡ recalledFrom b
   unfolding recalledFrom
-  read-wrong e = rw (last-fails (wrong e))
+  read-above e = rw (last-fails (above e))
 
-  pub settings-wrong : settingsHeld b ≡ false → NoSettings ≡ settingsIn b
+  pub settings-above : settingsInRange b ≡ false → NoSettings ≡ settingsIn b
   unfolding settingsIn
-  settings-wrong e = rw (last-fails (wrong e))
+  settings-above e = rw (last-fails (above e))
 
   pub settings-frame : holdsFrame b ≡ false → NoSettings ≡ settingsIn b
   unfolding settingsIn recordValid
@@ -149,13 +153,36 @@ module _ (b : List ℕ) (begun : begins b ≡ true) where
   unfolding recalledFrom recordValid frameRead
   read-frame e = let no : frameFits b ≡ false = frame-none (frameFits b) _ _ _ (rw long at e) in rw (begun, no)
 
-  module _ (held : settingsHeld b ≡ true) where
-    fit : settingsRight b ≡ true
-    fit = rw long at held
+  module _ (none : partRead (byte b 58) ≡ Unknown) where
+    unparted : settingsRight b ≡ false
+    unfolding settingsRight
+    unparted =
+        rw (all-known b, part-none (byte b 58) none, and-false (selectionsKnown b))
+        (and-false (upTo (drop settingsAt b) settingsMaxima && scanRight b))
 
-    pub settings-whole : holdsFrame b ≡ true → settingsRead b (scanOf b) (partOf (byte b 58)) ≡ settingsIn b
+    pub read-unparted : nothingRecalled ≡ recalledFrom b
+    unfolding recalledFrom
+    read-unparted = rw (last-fails unparted)
+
+    pub settings-unparted : NoSettings ≡ settingsIn b
+    unfolding settingsIn
+    settings-unparted = rw (last-fails unparted)
+
+  module _ (ranged : settingsInRange b ≡ true) (part : Part) (parted : partRead (byte b 58) ≡ Known part) where
+    -- the selections are all that is left to decide
+    left : settingsRight b ≡ selectionsKnown b
+    unfolding settingsRight
+    left =
+        let fit : (upTo (drop settingsAt b) settingsMaxima && scanRight b) ≡ true = rw long at ranged in
+        rw (fit, all-known b, part-found (byte b 58) part Ht parted .0) (and-true _)
+
+    -- and the scan and the part that are handed in are those of the bytes
+    whole : partTo part (scanTo (scanOf b) (settingsOf b)) ≡ settingsOf b
+    whole = ap (λ (p : Part). partTo p (settingsOf b)) (sym (part-found (byte b 58) part Ht parted .1))
+
+    pub settings-whole : holdsFrame b ≡ true → settingsRead b (scanOf b) part ≡ settingsIn b
     unfolding settingsIn settingsRead recordValid
-    settings-whole e = let framed : frameFits b ≡ true = rw long at e in rw (begun, long, framed, fit)
+    settings-whole e = let framed : frameFits b ≡ true = rw long at e in rw (begun, long, framed, left, whole)
 
     module _ (levels : Levels) (phase : Phase) (line : Line) (framed : frameRead b ≡ Frame levels phase line) where
       frame : (frameFits b ≡ true) × (levelsAt b ≡ levels) × (phaseIn (phaseAt b) ≡ phase) × (lineIn (lineAt b) ≡ line)
@@ -165,14 +192,11 @@ module _ (b : List ℕ) (begun : begins b ≡ true) where
       fits : frameFits b ≡ true
       fits = frame .0
 
-      -- of so many bytes settings are always read
-      pub read-settings : settingsRead b (scanOf b) (partOf (byte b 58)) ≡ NoSettings → nothingRecalled ≡ recalledFrom b
-      unfolding settingsRead
-      read-settings e =
-          let none : true ≡ false = settings-none true (settingsOf b) (rw long at e) in
-          absurd (true≢false none)
+      pub read-settings : settingsRead b (scanOf b) part ≡ NoSettings → nothingRecalled ≡ recalledFrom b
+      unfolding recalledFrom settingsRead
+      read-settings e = rw (last-fails (left ∙ settings-none (selectionsKnown b) _ (rw long at e)))
 
-      pub read-whole : (settings : Settings) (memory : List ℕ) → settingsRead b (scanOf b) (partOf (byte b 58)) ≡ Set settings → memory ≡ memoryFrom b
+      pub read-whole : (settings : Settings) (memory : List ℕ) → settingsRead b (scanOf b) part ≡ Set settings → memory ≡ memoryFrom b
           → record {
             answer = verdict.Valid;
             chip = record { port = record { memory = memory; levels = levels; phase = phase; line = line }; settings = settings };
@@ -180,8 +204,9 @@ module _ (b : List ℕ) (begun : begins b ≡ true) where
           ≡ recalledFrom b
       unfolding recalledFrom settingsRead recordValid chipOf
       read-whole settings memory e m =
-          let found = settings-found true (settingsOf b) settings (rw long at e) in
-          rw (begun, fits, fit)
+          let found = settings-found (selectionsKnown b) _ settings (rw long at e) in
+          let right : settingsRight b ≡ true = left ∙ found .0 in
+          rw (begun, fits, right)
           (λ i.
           record {
             answer = verdict.Valid;
@@ -194,7 +219,7 @@ module _ (b : List ℕ) (begun : begins b ≡ true) where
                         phase = sym (frame .2) i;
                         line = sym (frame .3) i;
                       };
-                  settings = sym (found .1) i;
+                  settings = (sym (found .1) ∙ whole) i;
                 };
           })
 

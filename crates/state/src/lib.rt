@@ -15,6 +15,7 @@ use chip::Chip;
 use clock::Scan;
 use ground::ADDRESSES;
 use ground::Outcome;
+use ground::PartRead;
 use ground::RECORD_LENGTH;
 use ground::Refusal;
 use phases::FrameRead;
@@ -70,7 +71,7 @@ pub fn settings_in(bytes: &[u8]) -> SettingsRead
     if !memory_right(bytes) {
         return SettingsRead::NoSettings;
     }
-    if !recall::settings_right(bytes) {
+    if !recall::in_range(bytes) {
         return SettingsRead::NoSettings;
     }
     if !resume::holds_frame(bytes) {
@@ -80,7 +81,10 @@ pub fn settings_in(bytes: &[u8]) -> SettingsRead
         count: bytes[offsets::SCAN],
         common: bytes[offsets::COMMON],
     };
-    recall::settings_from(bytes, scan, recall::part_of(bytes[offsets::PART]))
+    let PartRead::Known(part) = ground::part_of(bytes[offsets::PART] as usize) else {
+        return SettingsRead::NoSettings;
+    };
+    recall::settings_from(bytes, scan, part)
 }
 
 // The chip that a record says, if the record is valid.
@@ -90,7 +94,7 @@ pub fn read(bytes: &[u8]) -> Recalled
     if !memory_right(bytes) {
         return nothing_recalled();
     }
-    if !recall::settings_right(bytes) {
+    if !recall::in_range(bytes) {
         return nothing_recalled();
     }
     let FrameRead::Frame(levels, phase, line) = resume::frame_in(bytes) else {
@@ -100,7 +104,9 @@ pub fn read(bytes: &[u8]) -> Recalled
         count: bytes[offsets::SCAN],
         common: bytes[offsets::COMMON],
     };
-    let part = recall::part_of(bytes[offsets::PART]);
+    let PartRead::Known(part) = ground::part_of(bytes[offsets::PART] as usize) else {
+        return nothing_recalled();
+    };
     let SettingsRead::Set(settings) = recall::settings_from(bytes, scan, part) else {
         return nothing_recalled();
     };

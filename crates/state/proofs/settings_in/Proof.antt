@@ -1,9 +1,9 @@
--- `state::settings_in` meets its contract: length and memory decide, then the settings' ranges, the frame, and the settings.
+-- `state::settings_in` meets its contract: length and memory decide, then the settings' ranges, the frame, the part, and the settings.
 -- Assumes nothing.
 use mathlib.Core.Path.{_∙_, sym}
 use native.Mathlib.Omega.{arith}
 use borrow.Author.Tests.{not-true, not-false}
-use Rattle.state.proofs.RecordLaws.{as-long, settings-begins, settings-wrong, settings-frame, settings-whole}
+use Rattle.state.proofs.RecordLaws.{as-long, settings-begins, settings-above, settings-frame, settings-unparted, settings-whole}
 use borrow.Author.Needs.{needs}
 use Rattle.state.proofs.settings_in.Statement.{statement}
 use Rattle.state.proofs.settings_in.Tie as tie
@@ -16,15 +16,15 @@ returns c =
     let memory = c .before in
     settings-begins (memory .before .before .args .bytes .now) (sym (memory .memory-right .ensures) ∙ not-true _ (c .if1 .taken))
 
-settings-right-requires : tie.Need-settings-right-requires
-settings-right-requires c κs = search needs
+in-range-requires : tie.Need-in-range-requires
+in-range-requires c κs = search needs
 
 returns-2 : tie.Need-returns-2
 returns-2 c =
     let range = c .before in
     let memory = range .before .before in
-    settings-wrong (memory .before .before .args .bytes .now) (sym (memory .memory-right .ensures) ∙ not-false _ (range .before .if1 .left))
-    (sym (range .settings-right .ensures) ∙ not-true _ (c .if2 .taken))
+    settings-above (memory .before .before .args .bytes .now) (sym (memory .memory-right .ensures) ∙ not-false _ (range .before .if1 .left))
+    (sym (range .in-range .ensures) ∙ not-true _ (c .if2 .taken))
 
 holds-frame-requires : tie.Need-holds-frame-requires
 holds-frame-requires c κs = search needs
@@ -45,8 +45,8 @@ shared-slice-read-part-of c =
     let memory = range .before .before in
     omega (arith, as-long (memory .before .before .args .bytes .now) (sym (memory .memory-right .ensures) ∙ not-false _ (range .before .if1 .left)))
 
-shared-slice-read-t8 : tie.Need-shared-slice-read-t8
-shared-slice-read-t8 c =
+shared-slice-read-t9 : tie.Need-shared-slice-read-t9
+shared-slice-read-t9 c =
     let held = c .before .before in
     let frame = held .before in
     let range = frame .before .before in
@@ -61,22 +61,41 @@ shared-slice-read-part-of-2 c =
     let memory = range .before .before in
     omega (arith, as-long (memory .before .before .args .bytes .now) (sym (memory .memory-right .ensures) ∙ not-false _ (range .before .if1 .left)))
 
+cast-part-of : tie.Need-cast-part-of
+cast-part-of c = omega (arith, c .shared-slice-known4 .given 58)
+
 part-of-requires : tie.Need-part-of-requires
 part-of-requires c κs = search needs
+
+enum-known-part : tie.Need-enum-known-part
+enum-known-part c = search needs
+
+enum-told : tie.Need-enum-told
+enum-told c = search needs
+
+returns-4 : tie.Need-returns-4
+returns-4 c =
+    let parted = c .before .before in
+    let range = parted .before .before .before .before .before .before .before in
+    let memory = range .before .before in
+    settings-unparted (memory .before .before .args .bytes .now) (sym (memory .memory-right .ensures) ∙ not-false _ (range .before .if1 .left))
+    (sym (parted .part-of .ensures) ∙ c .enum-told .given .1)
 
 settings-from-requires : tie.Need-settings-from-requires
 settings-from-requires c κs = search needs
 
-returns-4 : tie.Need-returns-4
-returns-4 c =
-    let parted = c .before in
+returns-5 : tie.Need-returns-5
+returns-5 c =
+    let known = c .before .before in
+    let parted = known .before .before in
     let held = parted .before .before .before .before in
     let frame = held .before in
     let range = frame .before .before in
     let memory = range .before .before in
-    rw (parted .part-of .ensures) at (c .settings-from .ensures)
+    c .settings-from .ensures
     ∙ settings-whole (memory .before .before .args .bytes .now) (sym (memory .memory-right .ensures) ∙ not-false _ (range .before .if1 .left))
-    (sym (range .settings-right .ensures) ∙ not-false _ (frame .before .if2 .left)) (sym (frame .holds-frame .ensures) ∙ not-false _ (held .if3 .left))
+    (sym (range .in-range .ensures) ∙ not-false _ (frame .before .if2 .left)) _ (sym (parted .part-of .ensures) ∙ known .part .given .1)
+    (sym (frame .holds-frame .ensures) ∙ not-false _ (held .if3 .left))
 
 pub settings-in-spec : {M : Type 1} → statement M
 settings-in-spec =
@@ -84,13 +103,17 @@ settings-in-spec =
     (tie.spec
     memory-right-requires
     returns
-    settings-right-requires
+    in-range-requires
     returns-2
     holds-frame-requires
     returns-3
     shared-slice-read-part-of
-    shared-slice-read-t8
+    shared-slice-read-t9
     shared-slice-read-part-of-2
+    cast-part-of
     part-of-requires
+    enum-known-part
+    enum-told
+    returns-4
     settings-from-requires
-    returns-4)
+    returns-5)
