@@ -7,8 +7,8 @@
 #ifndef HT1621_H
 #define HT1621_H
 
-#define HT1621_VERSION "5.0.0"
-#define HT1621_VERSION_NUMBER 50000 /* 10,000 x 5 + 100 x 0 + 0, to compare with */
+#define HT1621_VERSION "5.0.1"
+#define HT1621_VERSION_NUMBER 50001 /* 10,000 x 5 + 100 x 0 + 1, to compare with */
 
 /* ---- parts ---- */
 

@@ -33,7 +33,7 @@ uint32_t ht1621_step(uint8_t *record, size_t record_bytes, uint8_t sample);
    in a second with XTAL, of 256,000 with RC (as at power-on) or EXT, where eight ticks do what one does with XTAL. Ticks move the counters,
    and the scan (bytes 59 and 60) with the LCD on or off. While the chip does not
    run (system off, and not EXT) a tick changes nothing. C cuts a number above 65,535 to its low sixteen bits, 65,536 to 0: a second takes
-   several calls at 256 kHz.
+   several calls at 256 kHz. Nothing loops over the ticks: 65,535 of them take the time and the stack that one takes.
    Refused (HT1621_ADVANCE_REFUSED): HT1621_MALFORMED. Stack: at most 256 bytes. */
 uint32_t ht1621_advance(uint8_t *record, size_t record_bytes, uint16_t ticks);
 

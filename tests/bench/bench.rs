@@ -9,7 +9,8 @@ mod plain;
 mod stack;
 
 use inputs::{
-    above, capture, commands_of, frames, mixed, nibbles, noted, power_on, with, CODES, GN, HT, PART, RATE, RUNS, SOURCE,
+    above, capture, commands_of, frames, mixed, nibbles, noted, power_on, with, CODES, COMMONS, GN, HT, PART, RATE,
+    RUNS, SOURCE,
 };
 use packs::{packs, Pack, NAMES};
 use std::hint::black_box;
@@ -111,12 +112,7 @@ fn steps_in_turn(name: &str, samples: Vec<u8>) -> Job {
 }
 
 fn advances(name: &str, start: [u8; 64], ticks: u16) -> Job {
-    let times = if ticks > 256 { 1 } else { 64 };
-    job(name, times, start, move |pack, lab| {
-        for _ in 0..times {
-            lab.sum = lab.sum.wrapping_add(pack.advance(&mut lab.record, ticks));
-        }
-    })
+    calls(name, start, move |pack, lab| pack.advance(&mut lab.record, ticks))
 }
 
 fn writes(count: usize) -> Job {
@@ -209,6 +205,31 @@ fn table(rounds: usize, only: &str) {
     println!("\nMore than 5 % slower than the faster C: {}", slower.join("; "));
 }
 
+// `advance` while the time base is on, from every rate and number of commons of a source and a part: what 1 tick and 65,535 take, from
+// the least to the most; the largest ratios of 65,535 to 1, and of ours to the faster C.
+fn advances_everywhere(rounds: usize) {
+    println!("\n{:<28}{:>16}{:>16}{:>12}{:>9}", "advance, all of them", "1", "65535", "65535 / 1", "/C");
+    for (source, part) in [(0, HT), (0, GN), (1, HT), (1, GN), (2, HT), (2, GN)] {
+        let settings = (0..8).flat_map(|rate| (2..5).map(move |commons| (rate, commons)));
+        let (mut took, mut most) = ([(f64::MAX, 0.0f64); 2], [0.0f64; 2]);
+        for (rate, commons) in settings {
+            let start = with(
+                &[(SOURCE, source), (PART, part as u8), (RATE, rate), (COMMONS, commons)],
+                with(&RUNS, power_on()),
+            );
+            let each = [1, 65535].map(|ticks| measured(&advances("advance everywhere", start, ticks), rounds));
+            for k in 0..2 {
+                took[k] = (took[k].0.min(each[k][0]), took[k].1.max(each[k][0]));
+                most[1] = most[1].max(each[k][0] / each[k][1].min(each[k][2]));
+            }
+            most[0] = most[0].max(each[1][0] / each[0][0]);
+        }
+        let name = format!("{}, {}", ["XTAL", "RC", "EXT"][source as usize], ["HT", "GN"][part]);
+        let [one, many] = took.map(|(least, most)| format!("{} to {}", number(least), number(most)));
+        println!("{name:<28}{one:>16}{many:>16}{:>12.2}{:>9.2}", most[0], most[1]);
+    }
+}
+
 // How a call's cost grows: the call whole, and a share of it.
 fn grows<const N: usize>(what: &str, rounds: usize, counts: [usize; N], job_of: impl Fn(usize) -> Job) {
     println!("\n{what:<28}{:>10}{:>10}{:>10}", NAMES[0], "each", NAMES[1]);
@@ -244,6 +265,7 @@ fn main() {
     println!("All four agree on {calls} calls. Nanoseconds, the median of {rounds} rounds:\n");
     table(rounds, &only);
     if only.is_empty() {
+        advances_everywhere(rounds);
         growth(rounds);
         stacks();
     }

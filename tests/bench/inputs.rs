@@ -2,6 +2,7 @@
 use crate::packs::packs;
 
 pub const SOURCE: usize = 41;
+pub const COMMONS: usize = 44;
 pub const RATE: usize = 48;
 pub const PART: usize = 58;
 pub const HT: usize = 0;

@@ -16,7 +16,8 @@ enum { NO_SOURCE, TIME_BASE, FLAG };
 /* ---- the record ---- */
 
 /* How many base ticks a common is scanned, by the part. */
-static const uint8_t scanned[2] = {[HT1621_PART_HT] = 128, [HT1621_PART_GN] = 96};
+enum { HT_SCANNED = 128, GN_SCANNED = 96 };
+static const uint8_t scanned[2] = {[HT1621_PART_HT] = HT_SCANNED, [HT1621_PART_GN] = GN_SCANNED};
 
 static unsigned value_in(const uint8_t *r) { return r[HT1621_AT_VALUE] + 256u * r[HT1621_AT_VALUE + 1]; }
 
@@ -235,28 +236,42 @@ static uint32_t plain_step(uint8_t *record, size_t bytes, uint8_t sample)
 
 static int running(const uint8_t *r) { return r[HT1621_AT_SYSTEM] || r[HT1621_AT_SOURCE] == EXT; }
 
-/* A tick while running. */
-static void tick(uint8_t *r)
+/* Steps a counter that stands below its size, and returns how often it came back to 0. Where the size is a constant so is the divisor. */
+static inline uint32_t turn(uint8_t *counter, uint32_t size, uint32_t steps)
 {
-    if (r[HT1621_AT_SOURCE] != XTAL) {
-        r[HT1621_AT_P] = (r[HT1621_AT_P] + 1) % 8;
-        if (r[HT1621_AT_P] != 0)
-            return;
+    uint32_t sum = *counter + steps;
+
+    *counter = sum % size;
+    return sum / size;
+}
+
+static void scan(uint8_t *r, uint32_t base_ticks)
+{
+    uint8_t *counter = r + HT1621_AT_SCAN, *common = r + HT1621_AT_COMMON;
+    uint32_t rounds =
+        r[HT1621_AT_PART] == HT1621_PART_GN ? turn(counter, GN_SCANNED, base_ticks) : turn(counter, HT_SCANNED, base_ticks);
+
+    switch (r[HT1621_AT_COMMONS]) {
+    case 2: turn(common, 2, rounds); break;
+    case 3: turn(common, 3, rounds); break;
+    case 4: turn(common, 4, rounds); break;
     }
-    r[HT1621_AT_Q] = (r[HT1621_AT_Q] + 1) % 16;
-    if (++r[HT1621_AT_SCAN] == scanned[r[HT1621_AT_PART]]) {
-        r[HT1621_AT_SCAN] = 0;
-        r[HT1621_AT_COMMON] = (r[HT1621_AT_COMMON] + 1) % r[HT1621_AT_COMMONS];
-    }
+}
+
+/* So many ticks while running. */
+static void run(uint8_t *r, uint32_t ticks)
+{
+    uint32_t base_ticks = r[HT1621_AT_SOURCE] == XTAL ? ticks : turn(r + HT1621_AT_P, 8, ticks);
+    unsigned shift = 7 - r[HT1621_AT_RATE];
+    uint32_t d = r[HT1621_AT_D], turns;
+
+    turn(r + HT1621_AT_Q, 16, base_ticks);
+    scan(r, base_ticks);
     if (!r[HT1621_AT_BASE])
         return;
-    r[HT1621_AT_D] = (r[HT1621_AT_D] + 1) % 128;
-    if (r[HT1621_AT_D] & ((128 >> r[HT1621_AT_RATE]) - 1))
-        return;
-    if (++r[HT1621_AT_B] != 0)
-        return;
-    r[HT1621_AT_W] = (r[HT1621_AT_W] + 1) % 4;
-    if (r[HT1621_AT_W] == 0)
+    turns = ((d + base_ticks) >> shift) - (d >> shift);
+    turn(r + HT1621_AT_D, 128, base_ticks);
+    if (turn(r + HT1621_AT_W, 4, turn(r + HT1621_AT_B, 256, turns)))
         r[HT1621_AT_FLAG] = 1;
 }
 
@@ -265,8 +280,7 @@ static uint32_t plain_advance(uint8_t *record, size_t bytes, uint16_t ticks)
     if (!valid(record, bytes))
         return HT1621_MALFORMED;
     if (running(record))
-        for (; ticks > 0; ticks--)
-            tick(record);
+        run(record, ticks);
     return 0;
 }
 
@@ -448,7 +462,7 @@ static size_t list(const uint8_t *input, size_t count, char *out, int formatted)
         } else if (byte == 't') {
             ticks++;
             if (running(chip))
-                tick(chip);
+                run(chip, 1);
         } else if (byte != ' ' && byte != '\n') {
             return (size_t)(at - out + sprintf(at, "bad %u\n", (unsigned)i));
         }

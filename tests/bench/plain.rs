@@ -45,11 +45,14 @@ const MOST: Record = [
 ];
 
 // How many base ticks a common is scanned.
-fn scanned(part: u8) -> u8 {
+const HT_SCANNED: u32 = 128;
+const GN_SCANNED: u32 = 96;
+
+fn scanned(part: u8) -> u32 {
     if part == 0 {
-        128
+        HT_SCANNED
     } else {
-        96
+        GN_SCANNED
     }
 }
 
@@ -62,7 +65,7 @@ fn valid(r: &Record) -> bool {
     if !in_range || r[BIAS] < 2 || r[COMMONS] < 2 || !matches!(r[PITCH], 2 | 4) {
         return false;
     }
-    if r[SCAN] >= scanned(r[PART]) || r[COMMON] >= r[COMMONS] {
+    if r[SCAN] as u32 >= scanned(r[PART]) || r[COMMON] >= r[COMMONS] {
         return false;
     }
     if (r[PHASE] == 0) != (r[LINES] % 2 == 1) {
@@ -239,33 +242,41 @@ fn running(r: &Record) -> bool {
     r[SYSTEM] == 1 || r[SOURCE] == 2
 }
 
-// A tick while running.
-fn tick(r: &mut Record) {
-    if r[SOURCE] != 0 {
-        r[P] = (r[P] + 1) % 8;
-        if r[P] != 0 {
-            return;
-        }
-    }
-    r[Q] = (r[Q] + 1) % 16;
-    r[SCAN] += 1;
-    if r[SCAN] == scanned(r[PART]) {
-        r[SCAN] = 0;
-        r[COMMON] = if r[COMMON] + 1 == r[COMMONS] { 0 } else { r[COMMON] + 1 };
-    }
+// Steps a counter that stands below its size, and returns how often it came back to 0. Where the size is a constant so is the divisor.
+#[inline]
+fn turn(counter: &mut u8, size: u32, steps: u32) -> u32 {
+    let sum = *counter as u32 + steps;
+    *counter = (sum % size) as u8;
+    sum / size
+}
+
+fn scan(r: &mut Record, base_ticks: u32) {
+    let rounds = if r[PART] == 0 {
+        turn(&mut r[SCAN], HT_SCANNED, base_ticks)
+    } else {
+        turn(&mut r[SCAN], GN_SCANNED, base_ticks)
+    };
+    match r[COMMONS] {
+        2 => turn(&mut r[COMMON], 2, rounds),
+        3 => turn(&mut r[COMMON], 3, rounds),
+        _ => turn(&mut r[COMMON], 4, rounds),
+    };
+}
+
+// So many ticks while running.
+fn run(r: &mut Record, ticks: u32) {
+    let base_ticks = if r[SOURCE] == 0 { ticks } else { turn(&mut r[P], 8, ticks) };
+    turn(&mut r[Q], 16, base_ticks);
+    scan(r, base_ticks);
     if r[BASE] == 0 {
         return;
     }
-    r[D] = (r[D] + 1) % 128;
-    if r[D] & ((128u8 >> (r[RATE] % 8)) - 1) != 0 {
-        return;
-    }
-    r[B] = r[B].wrapping_add(1);
-    if r[B] == 0 {
-        r[W] = (r[W] + 1) % 4;
-        if r[W] == 0 {
-            r[FLAG] = 1;
-        }
+    let (shift, d) = (7 - r[RATE] % 8, r[D] as u32);
+    let turns = ((d + base_ticks) >> shift) - (d >> shift);
+    turn(&mut r[D], 128, base_ticks);
+    let rounds = turn(&mut r[B], 256, turns);
+    if turn(&mut r[W], 4, rounds) > 0 {
+        r[FLAG] = 1;
     }
 }
 
@@ -273,7 +284,7 @@ pub fn advance(record: &mut [u8], ticks: u16) -> u32 {
     match <&mut Record>::try_from(record) {
         Ok(r) if valid(r) => {
             if running(r) {
-                (0..ticks).for_each(|_| tick(r));
+                run(r, ticks as u32);
             }
             0
         }
@@ -439,7 +450,7 @@ pub fn list(input: &[u8]) -> Vec<u8> {
             b't' => {
                 ticks += 1;
                 if running(&chip) {
-                    tick(&mut chip);
+                    run(&mut chip, 1);
                 }
                 continue;
             }

@@ -152,7 +152,7 @@ static uint32_t call_record(uint32_t kind, size_t number) {
     return compared(&call);
 }
 
-/* An advance: mostly of few ticks, as many take long, and an input has no more than are soon done. */
+/* An advance: mostly of few ticks, as many take the model long, and an input has no more than are soon done. */
 static void advance_record(void) {
     unsigned ticks = next_byte();
     if (ticks == 255) {

@@ -63,12 +63,20 @@ static void all_steps(void)
     ht1621_step(record, sizeof record, 16);
     ht1621_step(record, 1, 0);
 }
+/* From every part, source, rate and number of commons, with the system and the time base on and off. */
 static void all_advances(void)
 {
-    for (uint8_t part = HT1621_PART_HT; part <= HT1621_PART_GN; part++) {
-        become(part);
+    for (unsigned kind = 0; kind < 2 * 2 * 2 * 3 * 8 * 3; kind++) {
+        become(kind % 2);
+        record[HT1621_AT_SYSTEM] = kind / 2 % 2;
+        record[HT1621_AT_BASE] = kind / 4 % 2;
+        record[HT1621_AT_SOURCE] = kind / 8 % 3;
+        record[HT1621_AT_RATE] = kind / 24 % 8;
+        record[HT1621_AT_COMMONS] = 2 + kind / 192;
+        record[HT1621_AT_COMMON] = 0;
         for (uint32_t n = 0; n < 65536; n += 4369)
-            ht1621_advance(record, sizeof record, (uint16_t)n);
+            if (ht1621_advance(record, sizeof record, (uint16_t)n) != 0)
+                exit(1);
     }
 }
 static void all_pins(void) { ht1621_pins(record, sizeof record, out, sizeof out); }

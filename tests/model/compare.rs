@@ -8,6 +8,7 @@ mod model;
 
 use due::{answer_number, Outcome};
 use model::Model;
+use std::time::{Duration, Instant};
 
 // A buffer lent to a call stands between guard bytes, and every call is judged:
 // the guards stand, what is only read is unchanged, a refusal changes no byte and
@@ -1321,6 +1322,65 @@ fn single_ticks(tally: &mut Tally, record: [u8; 64]) {
     });
 }
 
+// Advances by every number of ticks, from three random records of each source, rate,
+// part and number of commons; two of them run with the time base on, one of these
+// with the flag clear.
+fn every_number_of_ticks(tally: &mut Tally) {
+    for kind in 0..3 * 144 {
+        let mut record = random_record(&mut tally.dice);
+        record[41] = (kind % 3) as u8;
+        record[48] = (kind / 3 % 8) as u8;
+        record[44] = (2 + kind / 24 % 3) as u8;
+        set_scan(&mut tally.dice, &mut record, (kind / 72 % 2) as u8);
+        if kind < 2 * 144 {
+            record[40] = 1;
+            record[49] = 1;
+        }
+        if kind < 144 {
+            record[51] = 0;
+        }
+        advances_from(tally, &record);
+    }
+}
+
+// Each advance from a record is held to the model, which ticks once between two of
+// them.
+fn advances_from(tally: &mut Tally, record: &[u8; 64]) {
+    let mut chip = Model::from_record(record).expect("a valid record");
+    for ticks in 0..=u16::MAX {
+        let got = lent::advance(record, ticks);
+        tally.same((0, chip.record().to_vec()), got, &|| {
+            format!("advance record={} n={}", hex(record), ticks)
+        });
+        chip.tick();
+    }
+}
+
+// The least time that a hundred advances by so many ticks take.
+fn time_of(record: &[u8], ticks: u16) -> Duration {
+    let hundred = |_| {
+        let start = Instant::now();
+        (0..100).for_each(|_| drop(lent::advance(record, ticks)));
+        start.elapsed()
+    };
+    (0..50).map(hundred).min().expect("fifty times")
+}
+
+// An advance by 65,535 ticks takes no longer than by one: eight times as long at most,
+// as machines waver. A walk through them would take hundreds of times as long.
+fn cost_of_ticks(tally: &mut Tally) {
+    for source in 0..3 {
+        let mut record = tally.power_on(HT, &[0; 32], 64).1;
+        record[40] = 1;
+        record[41] = source;
+        record[49] = 1;
+        let (one, many) = (time_of(&record, 1), time_of(&record, u16::MAX));
+        tally.equal(1, (many < 8 * one) as u32, &|| {
+            format!("advance record={} by 1 takes {:?}, by 65535 {:?}", hex(&record), one, many)
+        });
+    }
+}
+
 /// The samples still to come in a walk, last one first.
 struct Plan {
     samples: Vec<u8>,
@@ -1799,7 +1859,7 @@ fn main() {
     };
     println!("seed {}, samples {}", asked.seed, asked.samples);
     let walk = |tally: &mut Tally| walks(tally, asked.samples);
-    let checks: [(&str, &dyn Fn(&mut Tally)); 19] = [
+    let checks: [(&str, &dyn Fn(&mut Tally)); 21] = [
         ("cases of the rules", &cases_of_the_rules),
         ("codes", &codes),
         ("every sample", &every_sample),
@@ -1817,6 +1877,8 @@ fn main() {
         ("decodings", &decodings),
         ("power-ons", &power_ons),
         ("advances", &advances),
+        ("every number of ticks", &every_number_of_ticks),
+        ("cost of ticks", &cost_of_ticks),
         ("walks", &walk),
         ("interrupted writes", &interrupted_writes),
     ];

@@ -473,23 +473,26 @@ impl Settings {
 }
 
 impl Counts {
-    // The base ticks that come with so many ticks of a clock.
-    fn base_ticks(&mut self, clock: u8, ticks: u64) -> u64 {
-        let weight = if clock == XTAL { 8 } else { 1 };
-        let after = self.prescale + weight * ticks;
-        let base = after / 8 - self.prescale / 8;
+    // A tick of a clock; says whether it is a base tick.
+    fn base_tick(&mut self, clock: u8) -> bool {
+        let each = clock == XTAL;
+        let weight = if each { 8 } else { 1 };
+        let after = self.prescale + weight;
         self.prescale = after % 128;
-        base
+        each || after % 8 == 0
     }
 
-    // Passes base ticks on to d, b and w; says whether w came back to 0.
-    fn pass_on(&mut self, rate: u8, base: u64) -> bool {
+    // Passes a base tick on to d, b and w; says whether w came back to 0.
+    fn pass_on(&mut self, rate: u8) -> bool {
         let every = 1 << (7 - rate);
-        let after = self.divider + base;
-        let chain = self.chain + after / every - self.divider / every;
+        let after = self.divider + 1;
         self.divider = after % 128;
+        if after % every != 0 {
+            return false;
+        }
+        let chain = self.chain + 1;
         self.chain = chain % 1024;
-        chain >= 1024
+        chain == 1024
     }
 
     // The counter b.
@@ -497,10 +500,10 @@ impl Counts {
         self.chain % 256
     }
 
-    // Passes base ticks on to the scan, which goes round through the commons.
-    fn scan_on(&mut self, part: u8, commons: u8, base: u64) {
+    // Passes a base tick on to the scan, which goes round through the commons.
+    fn scan_on(&mut self, part: u8, commons: u8) {
         let round = scanned(part) * commons as u64;
-        self.scan = (self.scan + base) % round;
+        self.scan = (self.scan + 1) % round;
     }
 }
 
@@ -656,19 +659,23 @@ impl Model {
 
     /// One tick of the clock.
     pub fn tick(&mut self) {
-        self.advance(1);
-    }
-
-    /// So many ticks at once.
-    pub fn advance(&mut self, ticks: u16) {
         if !self.settings.running() {
             return;
         }
-        let base = self.counts.base_ticks(self.settings.clock, ticks as u64);
-        self.counts.scan_on(self.part, self.settings.commons, base);
-        if self.settings.time_base == 1 && self.counts.pass_on(self.settings.rate, base) {
+        let base = self.counts.base_tick(self.settings.clock);
+        if !base {
+            return;
+        }
+        self.counts.scan_on(self.part, self.settings.commons);
+        if self.settings.time_base == 1 && self.counts.pass_on(self.settings.rate) {
             self.settings.flag = 1;
         }
+    }
+
+    /// So many ticks, one after the other.
+    pub fn advance(&mut self, ticks: u16) {
+        let count = ticks as u32;
+        (0..count).for_each(|_| self.tick());
     }
 
     /// The pins' number and the cells shown.

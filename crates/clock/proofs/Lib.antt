@@ -1,3 +1,5 @@
+pub mod CounterLaws
 pub mod Determined
-pub mod TicksLaws
+pub mod QuotientLaws
 pub mod ValidLaws
+pub mod WalkLaws

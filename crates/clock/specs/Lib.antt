@@ -2,3 +2,4 @@ pub mod Numbers
 pub mod Sizes
 pub mod Ticks
 pub mod Valid
+pub mod Walks

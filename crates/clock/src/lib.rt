@@ -1,27 +1,31 @@
-// The clock's counters: each is a small struct that goes in by value and comes back stepped.
+// The clock's counters: each is a small struct that goes in by value and comes back so many steps later. Nothing walks: where a counter
+// stands then is a remainder, and how often it came back to 0 on the way, which steps the next one, a difference of two quotients.
 ghost use mathlib.Core.Path.{_≡_};
-ghost use Prim.Native.Nat.{_+_, _%_};
+ghost use mathlib.Core.Bool.{cond};
+ghost use Prim.Native.Nat.{_-_};
+ghost use lib.Dec.{eqb};
 ghost use Rattle.commands.specs.Numbers.{commonsNumber};
 ghost use Rattle.clock.specs.Numbers.{sourceNumber};
-ghost use Rattle.clock.specs.Sizes.{scanSize};
-ghost use Rattle.clock.specs.Ticks.{prescalerStepped, tonerStepped, dividerStepped, baseStepped, watchdogStepped, due, timerStepped, scanStepped, baseTicked, prescaled, isBaseTick, countersTicked, scanTicked, timerCleared, watchdogCleared};
+ghost use Rattle.clock.specs.Sizes.{prescalerSize, baseSize, scanSize};
+ghost use Rattle.clock.specs.Ticks.{prescalerStepped, tonerStepped, dividerStepped, baseStepped, watchdogStepped, timerStepped, scanStepped, baseTicked, prescaled, countersTicked, timerCleared, watchdogCleared};
+ghost use Rattle.clock.specs.Walks.{next, walked, rounds, turns, baseTicks};
 use commands::Commons;
 use ground::Part;
 
 // How many values each counter goes through.
-pub const PRESCALER_SIZE: u16 = 8;
+pub const PRESCALER_SIZE: u32 = 8;
 
-pub const TONER_SIZE: u16 = 16;
+pub const TONER_SIZE: u32 = 16;
 
-pub const DIVIDER_SIZE: u16 = 128;
+pub const DIVIDER_SIZE: u32 = 128;
 
-pub const BASE_SIZE: u16 = 256;
+pub const BASE_SIZE: u32 = 256;
 
-pub const WATCHDOG_SIZE: u16 = 4;
+pub const WATCHDOG_SIZE: u32 = 4;
 
-pub const HT_SCAN_SIZE: u16 = 128;
+pub const HT_SCAN_SIZE: u32 = 128;
 
-pub const GN_SCAN_SIZE: u16 = 96;
+pub const GN_SCAN_SIZE: u32 = 96;
 
 // Where the system clock comes from.
 pub enum Source {
@@ -88,114 +92,145 @@ impl Source {
     }
 }
 
+// Where so many steps lead: a counter that makes none stays where it is, also out of its range.
+fn landed(steps: u16, count: u8, landing: u8) -> u8
+    ensures { λ r. ⌜ r ≡ cond (eqb steps 0) count landing ⌝ }
+{
+    if steps == 0 {
+        return count;
+    }
+    landing
+}
+
 impl Prescaler {
-    fn stepped(self) -> Prescaler
-        ensures { λ r. ⌜ r ≡ prescalerStepped self ⌝ }
+    fn stepped_by(self, steps: u16) -> Prescaler
+        ensures { λ r. ⌜ r ≡ walked prescalerStepped steps self ⌝ }
     {
+        let sum = self.count as u32 + steps as u32;
         Prescaler {
-            count: ((self.count as u16 + 1) % PRESCALER_SIZE) as u8,
+            count: landed(steps, self.count, (sum % PRESCALER_SIZE) as u8),
         }
     }
 
-    // A tick of this source.
-    fn ticked(self, source: Source) -> Prescaler
-        ensures { λ r. ⌜ r ≡ prescaled source self ⌝ }
+    // How often so many steps bring it back to 0.
+    fn rounds(self, steps: u16) -> u16
+        ensures { λ r. ⌜ r ≡ rounds prescalerSize steps (self .count) ⌝ }
+    {
+        let sum = self.count as u32 + steps as u32;
+        (sum / PRESCALER_SIZE - self.count as u32 / PRESCALER_SIZE) as u16
+    }
+
+    // After so many ticks of this source.
+    fn ticked_by(self, source: Source, ticks: u16) -> Prescaler
+        ensures { λ r. ⌜ r ≡ walked (prescaled source) ticks self ⌝ }
     {
         match source {
             Source::Xtal => self,
-            Source::Rc => self.stepped(),
-            Source::Ext => self.stepped(),
+            Source::Rc => self.stepped_by(ticks),
+            Source::Ext => self.stepped_by(ticks),
         }
     }
 
-    // Whether the tick that led here is a base tick.
-    fn is_base_tick(self, source: Source) -> bool
-        ensures { λ r. ⌜ r ≡ isBaseTick source self ⌝ }
+    // How many of so many ticks of this source are base ticks.
+    pub fn base_ticks(self, source: Source, ticks: u16) -> u16
+        ensures { λ r. ⌜ r ≡ baseTicks source ticks self ⌝ }
     {
         match source {
-            Source::Xtal => true,
-            Source::Rc => self.count == 0,
-            Source::Ext => self.count == 0,
+            Source::Xtal => ticks,
+            Source::Rc => self.rounds(ticks),
+            Source::Ext => self.rounds(ticks),
         }
     }
 }
 
 impl Toner {
-    fn stepped(self) -> Toner
-        ensures { λ r. ⌜ r ≡ tonerStepped self ⌝ }
+    fn stepped_by(self, steps: u16) -> Toner
+        ensures { λ r. ⌜ r ≡ walked tonerStepped steps self ⌝ }
     {
+        let sum = self.count as u32 + steps as u32;
         Toner {
-            count: ((self.count as u16 + 1) % TONER_SIZE) as u8,
+            count: landed(steps, self.count, (sum % TONER_SIZE) as u8),
         }
     }
 }
 
+// A rate's period is 2 to this.
+fn shift_of(rate: u8) -> u8
+    ensures { λ r. ⌜ r ≡ 7 - rate ⌝ }
+{
+    if 7 <= rate {
+        return 0;
+    }
+    7 - rate
+}
+
 impl Divider {
-    fn stepped(self) -> Divider
-        ensures { λ r. ⌜ r ≡ dividerStepped self ⌝ }
+    fn stepped_by(self, steps: u16) -> Divider
+        ensures { λ r. ⌜ r ≡ walked dividerStepped steps self ⌝ }
     {
+        let sum = self.count as u32 + steps as u32;
         Divider {
-            count: ((self.count as u16 + 1) % DIVIDER_SIZE) as u8,
+            count: landed(steps, self.count, (sum % DIVIDER_SIZE) as u8),
         }
     }
 
-    // Whether the rate's turn has come.
-    fn due(self, rate: u8) -> bool
-        ensures { λ r. ⌜ r ≡ due rate (self .count) ⌝ }
+    // How often the rate's turn comes in so many steps.
+    fn turns(self, rate: u8, steps: u16) -> u16
+        ensures { λ r. ⌜ r ≡ turns rate steps self ⌝ }
     {
-        if 7 <= rate {
-            return true;
-        }
-        let period = DIVIDER_SIZE >> rate;
-        self.count as u16 % period == 0
+        let sum = self.count as u32 + steps as u32;
+        let shift = shift_of(rate);
+        ((sum >> shift) - (self.count as u32 >> shift)) as u16
     }
 }
 
 impl BaseCounter {
-    fn stepped(self) -> BaseCounter
-        ensures { λ r. ⌜ r ≡ baseStepped self ⌝ }
+    fn stepped_by(self, steps: u16) -> BaseCounter
+        ensures { λ r. ⌜ r ≡ walked baseStepped steps self ⌝ }
     {
+        let sum = self.count as u32 + steps as u32;
         BaseCounter {
-            count: ((self.count as u16 + 1) % BASE_SIZE) as u8,
+            count: landed(steps, self.count, (sum % BASE_SIZE) as u8),
         }
+    }
+
+    fn rounds(self, steps: u16) -> u16
+        ensures { λ r. ⌜ r ≡ rounds baseSize steps (self .count) ⌝ }
+    {
+        let sum = self.count as u32 + steps as u32;
+        (sum / BASE_SIZE - self.count as u32 / BASE_SIZE) as u16
     }
 }
 
 impl Watchdog {
-    fn stepped(self) -> Watchdog
-        ensures { λ r. ⌜ r ≡ watchdogStepped self ⌝ }
+    // The flag is set where w comes back to 0 on the way: then its quotient has grown.
+    fn stepped_by(self, steps: u16) -> Watchdog
+        ensures { λ r. ⌜ r ≡ walked watchdogStepped steps self ⌝ }
     {
-        let count = ((self.count as u16 + 1) % WATCHDOG_SIZE) as u8;
+        let sum = self.count as u32 + steps as u32;
+        let count = landed(steps, self.count, (sum % WATCHDOG_SIZE) as u8);
         Watchdog {
             count,
-            flag: count == 0 || self.flag,
+            flag: self.count as u32 / WATCHDOG_SIZE < sum / WATCHDOG_SIZE || self.flag,
         }
     }
 }
 
 impl Timer {
-    // A base tick while the time base is on.
-    fn stepped(self, rate: u8) -> Timer
-        ensures { λ r. ⌜ r ≡ timerStepped rate self ⌝ }
+    // After so many base ticks while the time base is on.
+    fn stepped_by(self, rate: u8, steps: u16) -> Timer
+        ensures { λ r. ⌜ r ≡ walked (timerStepped rate) steps self ⌝ }
     {
-        let divider = self.divider.stepped();
-        if divider.due(rate) {
-            let base = self.base.stepped();
-            if base.count == 0 {
-                let watchdog = self.watchdog.stepped();
-                return Timer {
-                    divider,
-                    base,
-                    watchdog,
-                };
-            }
-            return Timer {
-                divider,
-                base,
-                ..self
-            };
+        let turns = self.divider.turns(rate, steps);
+        let rounds = self.base.rounds(turns);
+        let divider = self.divider.stepped_by(steps);
+        let base = self.base.stepped_by(turns);
+        let watchdog = self.watchdog.stepped_by(rounds);
+        Timer {
+            divider,
+            base,
+            watchdog,
         }
-        Timer { divider, ..self }
     }
 
     // What CLR TIMER leaves.
@@ -222,13 +257,13 @@ impl Timer {
 }
 
 impl Counters {
-    // A base tick.
-    fn base_ticked(self, on: bool, rate: u8) -> Counters
-        ensures { λ r. ⌜ r ≡ baseTicked on rate self ⌝ }
+    // After so many base ticks.
+    fn base_ticked_by(self, on: bool, rate: u8, steps: u16) -> Counters
+        ensures { λ r. ⌜ r ≡ walked (baseTicked on rate) steps self ⌝ }
     {
-        let toner = self.toner.stepped();
+        let toner = self.toner.stepped_by(steps);
         if on {
-            let timer = self.timer.stepped(rate);
+            let timer = self.timer.stepped_by(rate, steps);
             return Counters {
                 toner,
                 timer,
@@ -238,59 +273,59 @@ impl Counters {
         Counters { toner, ..self }
     }
 
-    // A tick while the chip is running.
-    pub fn ticked(self, source: Source, on: bool, rate: u8) -> Counters
-        ensures { λ r. ⌜ r ≡ countersTicked source on rate self ⌝ }
+    // After so many ticks while the chip is running.
+    pub fn ticked_by(self, source: Source, on: bool, rate: u8, ticks: u16) -> Counters
+        ensures { λ r. ⌜ r ≡ walked (countersTicked source on rate) ticks self ⌝ }
     {
-        let prescaler = self.prescaler.ticked(source);
-        let next = Counters { prescaler, ..self };
-        if prescaler.is_base_tick(source) {
-            return next.base_ticked(on, rate);
-        }
-        next
+        let base_ticks = self.prescaler.base_ticks(source, ticks);
+        let prescaler = self.prescaler.ticked_by(source, ticks);
+        let next = self.base_ticked_by(on, rate, base_ticks);
+        Counters { prescaler, ..next }
     }
 }
 
 impl Scan {
-    // The counter after a base tick.
-    fn count_after(self, part: Part) -> u8
-        ensures { λ r. ⌜ r ≡ (self .count + 1) % scanSize part ⌝ }
+    // The counter after so many base ticks.
+    fn count_after(self, part: Part, steps: u16) -> u8
+        ensures { λ r. ⌜ r ≡ walked (next (scanSize part)) steps (self .count) ⌝ }
     {
+        let sum = self.count as u32 + steps as u32;
         match part {
-            Part::Ht => ((self.count as u16 + 1) % HT_SCAN_SIZE) as u8,
-            Part::Gn => ((self.count as u16 + 1) % GN_SCAN_SIZE) as u8,
+            Part::Ht => landed(steps, self.count, (sum % HT_SCAN_SIZE) as u8),
+            Part::Gn => landed(steps, self.count, (sum % GN_SCAN_SIZE) as u8),
         }
     }
 
-    // The common to be scanned next.
-    fn common_after(self, commons: Commons) -> u8
-        ensures { λ r. ⌜ r ≡ (self .common + 1) % commonsNumber commons ⌝ }
+    // How often so many base ticks bring the counter back to 0.
+    fn rounds(self, part: Part, steps: u16) -> u16
+        ensures { λ r. ⌜ r ≡ rounds (scanSize part) steps (self .count) ⌝ }
     {
+        let sum = self.count as u32 + steps as u32;
+        match part {
+            Part::Ht => (sum / HT_SCAN_SIZE - self.count as u32 / HT_SCAN_SIZE) as u16,
+            Part::Gn => (sum / GN_SCAN_SIZE - self.count as u32 / GN_SCAN_SIZE) as u16,
+        }
+    }
+
+    // The common that is scanned so many rounds later.
+    fn common_after(self, commons: Commons, rounds: u16) -> u8
+        ensures { λ r. ⌜ r ≡ walked (next (commonsNumber commons)) rounds (self .common) ⌝ }
+    {
+        let sum = self.common as u32 + rounds as u32;
         match commons {
-            Commons::Two => ((self.common as u16 + 1) % 2) as u8,
-            Commons::Three => ((self.common as u16 + 1) % 3) as u8,
-            Commons::Four => ((self.common as u16 + 1) % 4) as u8,
+            Commons::Two => landed(rounds, self.common, (sum % 2) as u8),
+            Commons::Three => landed(rounds, self.common, (sum % 3) as u8),
+            Commons::Four => landed(rounds, self.common, (sum % 4) as u8),
         }
     }
 
-    fn stepped(self, part: Part, commons: Commons) -> Scan
-        ensures { λ r. ⌜ r ≡ scanStepped part commons self ⌝ }
+    // After so many base ticks.
+    pub fn stepped_by(self, part: Part, commons: Commons, steps: u16) -> Scan
+        ensures { λ r. ⌜ r ≡ walked (scanStepped part commons) steps self ⌝ }
     {
-        let count = self.count_after(part);
-        if count == 0 {
-            let common = self.common_after(commons);
-            return Scan { count, common };
-        }
-        Scan { count, ..self }
-    }
-
-    // A tick while the chip is running, p as the tick leaves it.
-    pub fn ticked(self, source: Source, prescaler: Prescaler, part: Part, commons: Commons) -> Scan
-        ensures { λ r. ⌜ r ≡ scanTicked source prescaler part commons self ⌝ }
-    {
-        if prescaler.is_base_tick(source) {
-            return self.stepped(part, commons);
-        }
-        self
+        let rounds = self.rounds(part, steps);
+        let count = self.count_after(part, steps);
+        let common = self.common_after(commons, rounds);
+        Scan { count, common }
     }
 }

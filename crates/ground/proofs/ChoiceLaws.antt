@@ -13,6 +13,11 @@ module _ {A : Type 0} (P : A → Type 0) where
   by-cases true p q = p refl
   by-cases false p q = q refl
 
+-- what is made of a choice is a choice of what is made of each side
+pub of-choice : {A B : Type 0} (f : A → B) (b : Bool) (x y : A) → f (cond b x y) ≡ cond b (f x) (f y)
+of-choice f true x y = refl
+of-choice f false x y = refl
+
 -- ---- tests that hold together
 
 pub and-left : (a b : Bool) → (a && b) ≡ true → a ≡ true

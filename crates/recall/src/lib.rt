@@ -71,9 +71,9 @@ fn scan_fits(part: u8, commons: u8, counter: u8, common: u8) -> bool
         return false;
     }
     if part == 1 {
-        return (counter as u16) < clock::GN_SCAN_SIZE;
+        return (counter as u32) < clock::GN_SCAN_SIZE;
     }
-    (counter as u16) < clock::HT_SCAN_SIZE
+    (counter as u32) < clock::HT_SCAN_SIZE
 }
 
 // Whether each of a record's bytes 40 to 63 is in range. Apart from `settings_from`, which is then small enough to be put into its

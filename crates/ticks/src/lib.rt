@@ -20,9 +20,9 @@ pub fn running(settings: Settings) -> bool
     }
 }
 
-// The settings after one tick of the system clock.
-pub fn ticked(settings: Settings) -> Settings
-    ensures { λ r. ⌜ r ≡ ticked settings ⌝ }
+// The settings after `ticks` single ticks, without walking. Counters and scan go by the same base ticks, which the compiler works out once.
+pub fn advanced(settings: Settings, ticks: u16) -> Settings
+    ensures { λ r. ⌜ r ≡ advanced ticks settings ⌝ }
 {
     if running(settings) {
         let system = settings.system;
@@ -30,26 +30,21 @@ pub fn ticked(settings: Settings) -> Settings
         let lcd = settings.lcd;
         let commons = lcd.commons;
         let part = settings.part;
+        let prescaler = settings.counters.prescaler;
+        let base_ticks = prescaler.base_ticks(source, ticks);
         let mut next = settings;
         next.counters = settings
             .counters
-            .ticked(source, settings.base.on, settings.base.rate);
-        let prescaler = next.counters.prescaler;
-        next.scan = settings.scan.ticked(source, prescaler, part, commons);
+            .ticked_by(source, settings.base.on, settings.base.rate, ticks);
+        next.scan = settings.scan.stepped_by(part, commons, base_ticks);
         return next;
     }
     settings
 }
 
-// The settings after `ticks` single ticks.
-pub fn advanced(settings: Settings, ticks: u16) -> Settings
-    ensures { λ r. ⌜ r ≡ advanced ticks settings ⌝ }
+// The settings after one tick of the system clock.
+pub fn ticked(settings: Settings) -> Settings
+    ensures { λ r. ⌜ r ≡ ticked settings ⌝ }
 {
-    let mut reached = settings;
-    let mut left = ticks;
-    while 0 < left {
-        reached = ticked(reached);
-        left -= 1;
-    }
-    reached
+    advanced(settings, 1)
 }
