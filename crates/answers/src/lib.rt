@@ -1,4 +1,6 @@
 // What a sample is answered, and the answer as numbers. Assumes nothing.
+#![tactic(auto)]
+
 ghost use Rattle.std.specs.Prelude.{◌≡◌};
 ghost use Rattle.answers.specs.Answers.{numbered, numbers};
 

@@ -1,5 +1,7 @@
 // The chip: a port, which is the memory with the lines, the frame and DATA, and the settings. Each sample of the four lines
 // is taken and answered; each tick moves the settings' counters. All goes by value. Assumes nothing.
+#![tactic(auto)]
+
 ghost use Rattle.std.specs.Prelude.{◌≡◌};
 ghost use Rattle.chip.specs.Chip.{commanded, stepped_to, stepped, ticked, advanced};
 

@@ -1,5 +1,7 @@
 // The clock's counters: each is a small struct that goes in by value and comes back so many steps later. Nothing walks: where a counter
 // stands then is a remainder, and how often it came back to 0 on the way, which steps the next one, a difference of two quotients.
+#![tactic(auto)]
+
 ghost use Rattle.std.specs.Prelude.{◌≡◌, cond, ◌-◌, eqb};
 ghost use Rattle.commands.specs.Numbers.{commons_number};
 ghost use Rattle.clock.specs.Numbers.{source_number};

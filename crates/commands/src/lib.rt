@@ -1,4 +1,6 @@
 // What a command code means, in each part.
+#![tactic(auto)]
+
 ghost use Rattle.std.specs.Prelude.{◌≡◌};
 ghost use Rattle.ground.specs.Places.{lowest};
 ghost use Rattle.commands.specs.Commands.{code_meaning, command_fault};

@@ -2,6 +2,8 @@
 // Every call is answered: with the number of bytes that it wrote at the start of the buffer lent, or with the reason
 // why it wrote none. What is not refused here is for `streams` to write, which refuses last, a buffer too short.
 // Assumes nothing.
+#![tactic(auto)]
+
 ghost use Rattle.std.specs.Prelude.{length};
 ghost use Rattle.ground.specs.Outcomes.{ComesTo};
 ghost use Rattle.streams.specs.Streams.{write_stream, read_stream, command_stream, decoded};

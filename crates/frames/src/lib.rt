@@ -1,5 +1,7 @@
 // A frame, sample by sample: what a phase makes of what the four lines do. It knows the nibble that stands at the frame's
 // address and no more of the memory, and of a command its code and not its meaning. All goes by value. Assumes nothing.
+#![tactic(auto)]
+
 ghost use Rattle.std.specs.Prelude.{◌≡◌};
 ghost use Rattle.ground.specs.Bits.{bit_at};
 ghost use Rattle.frames.specs.Frames.{more, turned, next, stray, collected, identified, ident_taken, read_to_taken, write_to_taken, nibble_taken, command_taken, taken, read_offered, write_offered, offered, closed, frame};

@@ -1,6 +1,8 @@
 // What every crate above shares: sizes; the parts, and the refusals, with their numbers; what a call that writes bytes comes to; what
 // it means that a contract determines its result; bits and bytes written over a buffer; and how one computed test becomes a
 // law. Assumes nothing.
+#![tactic(auto)]
+
 ghost use Rattle.std.specs.Prelude.{◌≡◌, ltb};
 ghost use Rattle.ground.specs.Places.{lowest};
 ghost use Rattle.ground.specs.Written.{memory_from};

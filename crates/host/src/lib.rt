@@ -1,6 +1,8 @@
 // The maker's library for C: a chip's record at power-on, streams for writes, reads and commands, and the meaning of what
 // a read noted. Each call returns the number of bytes that it wrote at the start of the buffer lent, or 2^31 + 256 x place
 // + the refusal's number. A refused call changes no byte, and a success none after those written. Assumes nothing.
+#![tactic(auto)]
+
 ghost use Rattle.std.specs.Prelude.{◌≡◌, ◌<◌};
 ghost use Rattle.host.specs.Host.{refused_code, host_code, power_on_returns, power_on_bytes};
 ghost use Rattle.host.specs.Host.{write_returns, write_bytes, read_returns, read_bytes};

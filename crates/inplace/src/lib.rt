@@ -1,4 +1,6 @@
 // The chip stepped where it stands. Assumes nothing.
+#![tactic(auto)]
+
 ghost use Rattle.std.specs.Prelude.{◌≡◌};
 ghost use Rattle.chip.specs.Chip.{stepped};
 

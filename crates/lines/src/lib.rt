@@ -1,4 +1,6 @@
 // The four lines: a sample's levels, and what a sample is to a frame by the levels before and after it. Assumes nothing.
+#![tactic(auto)]
+
 ghost use Rattle.std.specs.Prelude.{◌≡◌};
 ghost use Rattle.lines.specs.Samples.{levels, levels_number, rose, clocked, edge};
 

@@ -2,6 +2,8 @@
 // many already. The output has the room for any input that is not too long. An input that cannot be read and an output
 // that cannot be written are said on standard error. How it ended it says as a digit, which `./list` makes its status, on
 // descriptor 3, where it is started with an argument. Assumes nothing beyond `libc` and `os`.
+#![tactic(auto)]
+
 ghost use Rattle.std.specs.Prelude.{◌≡◌, length};
 
 use ground::Outcome;

@@ -1,5 +1,7 @@
 // Lists some inputs and compares each listing with the fixed bytes that it should be; writes `ok`, or `wrong`. Assumes
 // nothing beyond `libc`.
+#![tactic(auto)]
+
 ghost use Rattle.std.specs.Prelude.{◌≡◌, length};
 
 use ground::Outcome;

@@ -1,5 +1,7 @@
 // Where a frame stands, what the chip does to DATA, and both with the lines as bytes of a state record, 32 to 39. Assumes
 // nothing.
+#![tactic(auto)]
+
 ghost use Rattle.std.specs.Prelude.{◌≡◌};
 ghost use Rattle.ground.specs.Outcomes.{written_as};
 ghost use Rattle.phases.specs.Phases.{unfinished, address, value_of, position_of, phase_number, line_number};

@@ -1,4 +1,6 @@
 // What the pins of a chip show: IRQ, BZ and its partner, DATA and the cells. Assumes nothing.
+#![tactic(auto)]
+
 ghost use Rattle.std.specs.Prelude.{◌≡◌, map};
 ghost use Rattle.std.specs.Int.Bits.{bit_and};
 ghost use Rattle.pins.specs.Pins.{asserted, wave, sounding, irq_low, bz_high, partner_high, shown_nibble, pins_shown};

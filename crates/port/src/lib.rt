@@ -1,4 +1,6 @@
 // The port: what samples move of a chip, the memory with the lines, the frame and DATA. All goes by value. Assumes nothing.
+#![tactic(auto)]
+
 ghost use Rattle.std.specs.Prelude.{◌≡◌, get_or, set};
 ghost use Rattle.port.specs.Port.{moved};
 

@@ -1,4 +1,6 @@
 // Power-on of a chip. Assumes nothing.
+#![tactic(auto)]
+
 ghost use Rattle.std.specs.Prelude.{◌≡◌};
 ghost use Rattle.power.specs.PowerOn.{fresh_chip, empty_chip, not_started, powered_on};
 

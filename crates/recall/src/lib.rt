@@ -1,4 +1,6 @@
 // The settings read from a state record's bytes, 40 to 63. Assumes nothing.
+#![tactic(auto)]
+
 ghost use Rattle.std.specs.Prelude.{◌≡◌, length};
 ghost use Rattle.ground.specs.Sizes.{record_length};
 ghost use Rattle.settings.specs.Bytes.{scan_fits, settings_in_range, settings_of, selections_read, settings_read};

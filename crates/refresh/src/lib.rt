@@ -1,5 +1,7 @@
 // The refresh of a picture with the fewest samples: the series of write streams that makes the wanted picture of the one that stands in
 // the chip. Assumes nothing.
+#![tactic(auto)]
+
 ghost use Rattle.std.specs.Prelude.{◌≡◌, ◌∷◌, ◌+◌, ◌-◌, ◌≤◌, ◌<◌, length, take, drop};
 ghost use Rattle.ground.specs.Outcomes.{ComesTo};
 ghost use Rattle.ground.specs.Sizes.{addresses};

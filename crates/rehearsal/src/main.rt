@@ -1,6 +1,8 @@
 // Rehearses a write that stops: 1, 2, 3, 4, 5 at address 3 on a chip with an empty memory, stopped after 40 of its 61 samples
 // with seven ticks after each, and then sent again. Writes the memory after the stop and after the resend, a line each of 32
 // hex digits. Assumes nothing beyond `libc`.
+#![tactic(auto)]
+
 ghost use Rattle.std.specs.Prelude.{◌≡◌, take};
 ghost use Rattle.demands.specs.Events.{after};
 ghost use Rattle.rehearsal.specs.Rehearsal.{paced, Rehearses};

@@ -1,4 +1,6 @@
 // A frame read from a state record's bytes, 32 to 39: the lines, the phase and DATA. Assumes nothing.
+#![tactic(auto)]
+
 ghost use Rattle.std.specs.Prelude.{◌≡◌, ◌+◌, ◌*◌};
 ghost use Rattle.phases.specs.Frame.{phase_read, line_read, holds_frame, frame_read};
 

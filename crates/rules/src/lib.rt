@@ -1,4 +1,6 @@
 // What a command does to the settings, and the settings at power-on. All goes by value. Assumes nothing.
+#![tactic(auto)]
+
 ghost use Rattle.std.specs.Prelude.{◌≡◌};
 ghost use Rattle.rules.specs.Effects.{without_time_base, without_flag, system_off, timer_off, watchdog_off, irq_off, glass_to, effect};
 ghost use Rattle.settings.specs.Settings.{power_on};

@@ -1,5 +1,7 @@
 // The settings: the switches and selections that commands set, with the counters, and the part that they are of; and all of them as
 // bytes of a state record, 40 to 63. Assumes nothing.
+#![tactic(auto)]
+
 ghost use Rattle.std.specs.Prelude.{◌≡◌};
 ghost use Rattle.ground.specs.Outcomes.{written_as};
 ghost use Rattle.settings.specs.Numbers.{pitch_number, irq_source_number};

@@ -1,5 +1,7 @@
 // The simulator's library for C: the host keeps the chip as a 64-byte record and lends it to each call. A refused call
 // returns the refusal's number and changes no byte. Assumes nothing.
+#![tactic(auto)]
+
 ghost use Rattle.std.specs.Prelude.{◌≡◌, map, ◌+◌, ◌*◌, ◌≤◌, length, take};
 ghost use Rattle.std.specs.Int.Bits.{bit_and};
 ghost use Rattle.ground.specs.Sizes.{addresses};

@@ -1,5 +1,7 @@
 // The state record: a chip as 64 bytes, read and written. A record is read only if it is valid, and then what is written
 // again is the same bytes. Assumes nothing.
+#![tactic(auto)]
+
 ghost use Rattle.std.specs.Prelude.{◌≡◌, ◌&&◌, ◌≤◌, eqb, length};
 ghost use Rattle.ground.specs.Sizes.{addresses, record_length};
 ghost use Rattle.ground.specs.Outcomes.{written_as};

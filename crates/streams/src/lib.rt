@@ -1,5 +1,7 @@
 // Sample streams for an HT1621, and what a read noted made nibbles. Each function writes its whole stream over the start of the
 // buffer lent, or refuses with 25 and writes nothing; what may be asked of a chip is for the driver to say. Assumes nothing.
+#![tactic(auto)]
+
 ghost use Rattle.std.specs.Prelude.{◌≡◌, ◌+◌, ◌*◌, ◌%◌, ◌<◌, ltb};
 ghost use Rattle.streams.specs.Streams.{write_stream, read_stream, command_stream, nibble_of, decoded, lowest_bits};
 ghost use Rattle.streams.specs.Sent.{Sends};

@@ -1,4 +1,6 @@
 // What ticks of the system clock do to the settings. All goes by value. Assumes nothing.
+#![tactic(auto)]
+
 ghost use Rattle.std.specs.Prelude.{◌≡◌};
 ghost use Rattle.ticks.specs.Ticks.{running, ticked, advanced};
 

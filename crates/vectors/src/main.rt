@@ -12,6 +12,8 @@
 // TICKS has 4 digits, ROOM 3, PART, FIRST and COUNT have 16. The buffer lent is as long as ROOM says and filled with 5a before, so
 // that it shows what was not written; for the cells of a capture it is 33 bytes. Of the script 262,144 bytes are read, of a
 // list 160, and at most 600 bytes are lent. Assumes nothing beyond `libc`.
+#![tactic(auto)]
+
 ghost use Rattle.std.specs.Prelude.{◌≡◌, ◌≤◌, length};
 ghost use Rattle.vectors.specs.Vectors.{sample_of};
 
