@@ -7,7 +7,7 @@ ghost use Rattle.answers.specs.Answers.{numbered, numbers};
 use ground::Refusal;
 
 // What a sample is answered.
-#[derive(Drop)]
+#[derive(Clone, Copy)]
 pub enum Answer {
     Nothing,
     Opened,
@@ -25,7 +25,7 @@ pub enum Answer {
 }
 
 // An answer as the table of RULES has it: its number and its two details.
-#[derive(Drop)]
+#[derive(Clone, Copy)]
 pub struct Numbers {
     pub number: u8,
     pub first: u8,

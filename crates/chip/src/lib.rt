@@ -13,14 +13,14 @@ use lines::Levels;
 use port::Port;
 use settings::Settings;
 
-#[derive(Drop)]
+#[derive(Clone, Copy)]
 pub struct Chip {
     pub port: Port,
     pub settings: Settings,
 }
 
 // A chip after a sample, and what the sample was answered.
-#[derive(Drop)]
+#[derive(Clone, Copy)]
 pub struct Stepped {
     pub chip: Chip,
     pub answer: Answer,

@@ -28,7 +28,7 @@ pub const HT_SCAN_SIZE: u32 = 128;
 pub const GN_SCAN_SIZE: u32 = 96;
 
 // Where the system clock comes from.
-#[derive(Drop)]
+#[derive(Clone, Copy)]
 pub enum Source {
     Xtal,
     Rc,
@@ -36,45 +36,45 @@ pub enum Source {
 }
 
 // p: divides the 256 kHz of RC or EXT by 8.
-#[derive(Drop)]
+#[derive(Clone, Copy)]
 pub struct Prescaler {
     pub count: u8,
 }
 
 // q: the tone's phase.
-#[derive(Drop)]
+#[derive(Clone, Copy)]
 pub struct Toner {
     pub count: u8,
 }
 
 // d: divides a base tick down to the rate.
-#[derive(Drop)]
+#[derive(Clone, Copy)]
 pub struct Divider {
     pub count: u8,
 }
 
 // b: the time base, whose upper half drives IRQ.
-#[derive(Drop)]
+#[derive(Clone, Copy)]
 pub struct BaseCounter {
     pub count: u8,
 }
 
 // w and the time-out flag.
-#[derive(Drop)]
+#[derive(Clone, Copy)]
 pub struct Watchdog {
     pub count: u8,
     pub flag: bool,
 }
 
 // What runs while the time base is on.
-#[derive(Drop)]
+#[derive(Clone, Copy)]
 pub struct Timer {
     pub divider: Divider,
     pub base: BaseCounter,
     pub watchdog: Watchdog,
 }
 
-#[derive(Drop)]
+#[derive(Clone, Copy)]
 pub struct Counters {
     pub prescaler: Prescaler,
     pub toner: Toner,
@@ -82,7 +82,7 @@ pub struct Counters {
 }
 
 // The scan of the LCD: how far it is with a common, and which one.
-#[derive(Drop)]
+#[derive(Clone, Copy)]
 pub struct Scan {
     pub count: u8,
     pub common: u8,

@@ -11,14 +11,14 @@ mod table; // table.rt: the 512 entries
 use ground::Part;
 
 // The LCD's bias.
-#[derive(Drop)]
+#[derive(Clone, Copy)]
 pub enum Bias {
     Half,
     Third,
 }
 
 // How many commons the LCD has.
-#[derive(Drop)]
+#[derive(Clone, Copy)]
 pub enum Commons {
     Two,
     Three,
@@ -51,7 +51,7 @@ impl Commons {
 }
 
 // The commands, by the names of the data sheets. A rate r from 0 to 7 is F1 to F128.
-#[derive(Drop)]
+#[derive(Clone, Copy)]
 pub enum Command {
     SysDis,
     SysEn,
@@ -79,7 +79,7 @@ pub enum Command {
 }
 
 // What a code means: nothing, or a command.
-#[derive(Drop)]
+#[derive(Clone, Copy)]
 pub enum Decoded {
     Undefined,
     Means(Command),

@@ -12,7 +12,7 @@ use phases::{Line, Phase};
 
 // What a sample comes to in its frame: an answer and no more; a nibble complete, with its address; or a command's code
 // complete, which whoever knows the commands has to answer.
-#[derive(Drop)]
+#[derive(Clone, Copy)]
 pub enum Upshot {
     Answered(Answer),
     Nibble(u8, u8),
@@ -20,7 +20,7 @@ pub enum Upshot {
 }
 
 // A frame after a sample.
-#[derive(Drop)]
+#[derive(Clone, Copy)]
 pub struct Framed {
     pub phase: Phase,
     pub line: Line,

@@ -15,14 +15,14 @@ pub const ADDRESSES: usize = 32;
 pub const RECORD_LENGTH: usize = 64;
 
 // Which chip it is: an HT1621 or a GN1621.
-#[derive(Drop)]
+#[derive(Clone, Copy)]
 pub enum Part {
     Ht,
     Gn,
 }
 
 // What the number of a part stands for.
-#[derive(Drop)]
+#[derive(Clone, Copy)]
 pub enum PartRead {
     Known(Part),
     Unknown,
@@ -52,7 +52,7 @@ pub fn part_of(number: usize) -> PartRead
 }
 
 // Why a call was refused. A place is the lowest index at fault.
-#[derive(Drop)]
+#[derive(Clone, Copy)]
 pub enum Refusal {
     // 20: a sample above 15
     SampleAbove,
@@ -127,7 +127,7 @@ impl Refusal {
 }
 
 // What a call that writes bytes comes to: how many it wrote over the buffer lent, or why it wrote none.
-#[derive(Drop)]
+#[derive(Clone, Copy)]
 pub enum Outcome {
     Written(usize),
     Refused(Refusal),

@@ -5,7 +5,7 @@ ghost use Rattle.std.specs.Prelude.{◌≡◌};
 ghost use Rattle.lines.specs.Samples.{levels, levels_number, rose, clocked, edge};
 
 // The levels of the four lines.
-#[derive(Drop)]
+#[derive(Clone, Copy)]
 pub struct Levels {
     pub cs: bool,
     pub wr: bool,
@@ -14,7 +14,7 @@ pub struct Levels {
 }
 
 // What a sample is to the frame, by the levels before and after it.
-#[derive(Drop)]
+#[derive(Clone, Copy)]
 pub enum Edge {
     Rests,
     Closes,

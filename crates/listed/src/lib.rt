@@ -3,7 +3,7 @@
 
 
 // What a byte of the input is.
-#[derive(Drop)]
+#[derive(Clone, Copy)]
 pub enum Class {
     Sample(u8),
     Tick,

@@ -32,7 +32,7 @@ pub const POSITION_AT: usize = FRAME_AT + 6;
 pub const DATA_AT: usize = FRAME_AT + 7;
 
 // Where a frame stands. What comes in bit by bit has a count of the bits so far and their value, the first bit highest.
-#[derive(Drop)]
+#[derive(Clone, Copy)]
 pub enum Phase {
     Idle,
     Ident(u8, u16),
@@ -45,7 +45,7 @@ pub enum Phase {
 }
 
 // What the chip does to DATA.
-#[derive(Drop)]
+#[derive(Clone, Copy)]
 pub enum Line {
     Released,
     Driven(bool),
@@ -145,20 +145,20 @@ impl Phase {
 }
 
 // What a coded byte reads to.
-#[derive(Drop)]
+#[derive(Clone, Copy)]
 pub enum PhaseRead {
     Phased(Phase),
     NoPhase,
 }
 
-#[derive(Drop)]
+#[derive(Clone, Copy)]
 pub enum LineRead {
     Data(Line),
     NoLine,
 }
 
 // What the frame's bytes read to.
-#[derive(Drop)]
+#[derive(Clone, Copy)]
 pub enum FrameRead {
     Frame(Levels, Phase, Line),
     NoFrame,

@@ -13,7 +13,7 @@ use phases::Line;
 use settings::{IrqSource, Pitch, Settings};
 
 // What the pins show: IRQ, BZ and its partner, DATA, and for each address the cells that show, bit c for common c.
-#[derive(Drop)]
+#[derive(Clone, Copy)]
 pub struct Pins {
     pub irq: bool, // low
     pub bz: bool, // high

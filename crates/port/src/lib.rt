@@ -10,7 +10,7 @@ use lines::Levels;
 use phases::{Line, Phase};
 
 // What samples move: the memory of 32 nibbles, the levels last seen, the frame, and what the chip does to DATA.
-#[derive(Drop)]
+#[derive(Clone, Copy)]
 pub struct Port {
     pub memory: [u8; ADDRESSES],
     pub levels: Levels,
@@ -19,7 +19,7 @@ pub struct Port {
 }
 
 // A port after a sample, and what the sample came to in its frame.
-#[derive(Drop)]
+#[derive(Clone, Copy)]
 pub struct Moved {
     pub port: Port,
     pub upshot: Upshot,

@@ -10,14 +10,14 @@ use phases::{Line, Phase};
 use port::Port;
 
 // Whether power-on was accepted.
-#[derive(Drop)]
+#[derive(Clone, Copy)]
 pub enum Start {
     On,
     Refused(Refusal),
 }
 
 // A chip that was powered on; where that was refused, one with zeros for its memory.
-#[derive(Drop)]
+#[derive(Clone, Copy)]
 pub struct PoweredOn {
     pub answer: Start,
     pub chip: Chip,

@@ -17,7 +17,7 @@ use streams::{NIBBLE_SAMPLES, TRANSFER_FRAME};
 const BRIDGED: usize = 2;
 
 // A run of addresses that one write sends: where it ends, and the difference that the next one begins at, or the number of addresses.
-#[derive(Drop)]
+#[derive(Clone, Copy)]
 struct Run {
     end: usize,
     next: usize,

@@ -11,7 +11,7 @@ use chip::Chip;
 use ground::{ADDRESSES, Outcome};
 
 // What a rehearsal comes to: what the driver answered, and the chip where the write was stopped.
-#[derive(Drop)]
+#[derive(Clone, Copy)]
 struct Rehearsed {
     answer: Outcome,
     chip: Chip,

@@ -19,13 +19,13 @@ pub const SETTINGS_AT: usize = ground::ADDRESSES + 8;
 pub const COUNTERS_AT: usize = SETTINGS_AT + 11;
 
 // The system oscillator.
-#[derive(Drop)]
+#[derive(Clone, Copy)]
 pub struct System {
     pub on: bool,
     pub source: Source,
 }
 
-#[derive(Drop)]
+#[derive(Clone, Copy)]
 pub struct Lcd {
     pub on: bool,
     pub bias: Bias,
@@ -33,20 +33,20 @@ pub struct Lcd {
 }
 
 // The tone's frequency: 4 kHz or 2 kHz.
-#[derive(Drop)]
+#[derive(Clone, Copy)]
 pub enum Pitch {
     FourK,
     TwoK,
 }
 
-#[derive(Drop)]
+#[derive(Clone, Copy)]
 pub struct Tone {
     pub on: bool,
     pub pitch: Pitch,
 }
 
 // What can pull IRQ low.
-#[derive(Drop)]
+#[derive(Clone, Copy)]
 pub enum IrqSource {
     Neither,
     TimeBase,
@@ -54,21 +54,21 @@ pub enum IrqSource {
 }
 
 // The IRQ output's switch, and its source.
-#[derive(Drop)]
+#[derive(Clone, Copy)]
 pub struct Irq {
     pub on: bool,
     pub source: IrqSource,
 }
 
 // The time base's switch and its rate r, F1 (0) to F128 (7).
-#[derive(Drop)]
+#[derive(Clone, Copy)]
 pub struct Base {
     pub on: bool,
     pub rate: u8,
 }
 
 // All that commands and ticks can change, and the part, which they cannot.
-#[derive(Drop)]
+#[derive(Clone, Copy)]
 pub struct Settings {
     pub system: System,
     pub lcd: Lcd,
@@ -107,45 +107,45 @@ impl IrqSource {
 }
 
 // What the coded byte of each selection reads to.
-#[derive(Drop)]
+#[derive(Clone, Copy)]
 pub enum SourceRead {
     From(Source),
     NoSource,
 }
 
-#[derive(Drop)]
+#[derive(Clone, Copy)]
 pub enum BiasRead {
     Biased(Bias),
     NoBias,
 }
 
-#[derive(Drop)]
+#[derive(Clone, Copy)]
 pub enum CommonsRead {
     Has(Commons),
     NoCommons,
 }
 
-#[derive(Drop)]
+#[derive(Clone, Copy)]
 pub enum PitchRead {
     Sounds(Pitch),
     NoPitch,
 }
 
-#[derive(Drop)]
+#[derive(Clone, Copy)]
 pub enum IrqSourceRead {
     Of(IrqSource),
     NoIrqSource,
 }
 
 // What they read to together.
-#[derive(Drop)]
+#[derive(Clone, Copy)]
 pub enum SelectionsRead {
     Selected(Source, Bias, Commons, Pitch, IrqSource),
     NoSelections,
 }
 
 // What the settings' bytes read to.
-#[derive(Drop)]
+#[derive(Clone, Copy)]
 pub enum SettingsRead {
     Set(Settings),
     NoSettings,

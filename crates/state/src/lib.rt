@@ -18,14 +18,14 @@ use port::Port;
 use settings::{SETTINGS_AT, SettingsRead, offsets};
 
 // Whether a record was accepted.
-#[derive(Drop)]
+#[derive(Clone, Copy)]
 pub enum Verdict {
     Valid,
     Invalid, // 28
 }
 
 // The chip that a record says; where it was refused, one at power-on with zeros for its memory.
-#[derive(Drop)]
+#[derive(Clone, Copy)]
 pub struct Recalled {
     pub chip: Chip,
     pub answer: Verdict,

@@ -1,0 +1,21 @@
+-- `commands::number_of` meets its contract: the table passes the test of the pattern rule, which antt computes
+-- over its 512 entries.
+-- Assumes nothing.
+use mathlib.Core.Path.{refl}
+use native.Mathlib.Omega.{arith}
+use Rattle.commands.specs.Commands.{code_meaning, byte_meaning}
+use Rattle.commands.proofs.TableLaws.{past_undefined, entry_there, table_follows}
+use Rattle.commands.proofs.number_of.Goals as goal
+
+pub returns-then-code-gt511 : goal.returns-then-code-gt511
+returns-then-code-gt511 c = simp (past_undefined c.args.part c.args.code (omega arith))
+
+array-read-result : tie.Need-array-read-result
+array-read-result c =
+    let start = c.before.before in
+    rw c.entry_of.ensures (entry_there start.args.part start.args.code (omega arith))
+
+pub returns : goal.returns
+unfolding code_meaning byte_meaning
+returns c =
+    rw c.entry_of-at.ensures (table_follows _ refl c.args.part c.args.code (omega arith))
