@@ -10,10 +10,9 @@ use Rattle.commands.proofs.number_of.Goals as goal
 pub returns-then-code-gt511 : goal.returns-then-code-gt511
 returns-then-code-gt511 c = simp (past_undefined c.args.part c.args.code (omega arith))
 
-array-read-result : tie.Need-array-read-result
-array-read-result c =
-    let start = c.before.before in
-    rw c.entry_of.ensures (entry_there start.args.part start.args.code (omega arith))
+pub bounds-at : goal.bounds-at
+bounds-at c =
+    rw c.entry_of-at.ensures (entry_there c.args.part c.args.code (omega arith))
 
 pub returns : goal.returns
 unfolding code_meaning byte_meaning
