@@ -117,4 +117,8 @@ same_size (outside e s) = ap suc (same_size s)
 
 pub same_none : (n : ℕ) (xs ys : List ℕ) → Same (replicate n false) xs ys → xs ≡ ys
 same_none zero [] [] none = refl
+same_none zero [] (y ∷ ys) s = elim s [ ]
+same_none zero (x ∷ xs) ys s = elim s [ ]
+same_none (suc n) [] ys s = elim s [ ]
+same_none (suc n) (x ∷ xs) [] s = elim s [ ]
 same_none (suc n) (x ∷ xs) (y ∷ ys) (outside e s) = ap (λ (z : ℕ). z ∷ xs) e ∙ ap (λ (zs : List ℕ). y ∷ zs) (same_none n xs ys s)

@@ -1,0 +1,10 @@
+-- `clock::BaseCounter::rounds` meets its contract: a difference of two quotients. Assumes nothing.
+use mathlib.Core.Path.{sym}
+use native.Mathlib.Omega.{arith}
+use Rattle.clock.specs.Sizes.{base_size}
+use Rattle.clock.proofs.QuotientLaws.{rounds_quotients}
+use Rattle.clock.proofs.BaseCounter.rounds.Goals as goal
+
+pub returns : goal.returns
+returns c =
+    sym (rounds_quotients base_size (omega arith) _ _)

@@ -1,0 +1,5 @@
+-- `clock::Timer::watchdog_cleared` meets its contract. Assumes nothing.
+use Rattle.clock.proofs.Timer.watchdog_cleared.Goals as goal
+
+pub returns : goal.returns
+returns c = simp c.cleared-timer.ensures
