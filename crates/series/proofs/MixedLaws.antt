@@ -1,15 +1,15 @@
 -- A refresh that is stopped: the picture is on the way from the standing one to the wanted one, and the same writes in full make it the
 -- wanted one. Assumes nothing.
-use mathlib.Core.List.{List, [], ◌∷◌, map}
-use mathlib.Core.Path.{◌≡◌, refl, ap}
-use Prim.Native.Nat.{ℕ, zero, suc, ◌+◌, ◌≤◌}
+use mathlib.Core.List.{List, [], ◌∷◌}
+use mathlib.Core.Path.{◌≡◌, refl}
+use Prim.Native.Nat.{ℕ, zero, suc, ◌≤◌}
 use native.Mathlib.Omega.{arith}
 use native.Mathlib.Nat.{suc-add, not-suc-le-zero, le_of_suc-le-suc}
 use mathlib.Core.Bool.{Bool}
 use lib.ListN.{length, take, drop}
 use lib.Seq.{paste, take-nil}
 use Rattle.series.specs.Series.{drawn, Mixed, none, stands, comes}
-use Rattle.series.specs.Runs.{write_of, spans, runs}
+use Rattle.series.specs.Runs.{spans, runs}
 use Rattle.series.proofs.Covers as covers
 use Rattle.series.proofs.Covers.{Same, inside, outside}
 use Rattle.series.proofs.Pastes.{paste_here, paste_later, renewed}

@@ -3,7 +3,7 @@
 use mathlib.Core.Path.{◌≡◌, ◌∙◌, refl, sym, ap, ap₂}
 use mathlib.Core.Bool.{Bool, true, false, cond, ◌&&◌, and-true}
 use mathlib.Core.List.{List, ◌++◌}
-use Prim.Native.Nat.{ℕ, ◌+◌, ◌-◌, ◌≤◌, ◌<◌}
+use Prim.Native.Nat.{ℕ, ◌+◌, ◌≤◌, ◌<◌}
 use native.Mathlib.Omega.{arith}
 use native.Mathlib.Nat.{add-zero}
 use lib.Dec.{eqb, ltb}
@@ -23,7 +23,7 @@ use Rattle.ground.proofs.ChoiceLaws.{and_left, and_right, and_both, each_of_3}
 use Rattle.ground.proofs.CodesLaws.{case_of_again}
 use Rattle.ground.proofs.PartsLaws.{part_back, part_small}
 use Rattle.ground.proofs.RangesLaws.{up_to_at, up_to_passes, up_to_fails, up_to_ends}
-use Rattle.ground.proofs.WrittenLaws.{gather, length_over, over_over}
+use Rattle.ground.proofs.WrittenLaws.{gather, over_over}
 use Rattle.clock.specs.Numbers.{source_number}
 use Rattle.clock.specs.Sizes.{scan_size}
 use Rattle.clock.specs.declared.Scan.{Scan}

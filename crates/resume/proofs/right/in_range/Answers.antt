@@ -1,0 +1,20 @@
+-- `resume::right::in_range` meets its contract: the first byte out of range decides, or the last. Assumes nothing.
+use borrow.Author.Tests.{lt-leb, le-leb, lt-ltb, le-ltb}
+use Rattle.phases.specs.Frame.{in_range}
+use Rattle.resume.proofs.right.in_range.Goals as goal
+
+pub returns-then-lines-gt15 : goal.returns-then-lines-gt15
+unfolding in_range
+returns-then-lines-gt15 c = simp (lt-leb _ _ c.if-lines-gt15.true)
+
+pub returns-then-at-ge-ROUND : goal.returns-then-at-ge-ROUND
+unfolding in_range
+returns-then-at-ge-ROUND c = simp (le-leb _ _ c.if-lines-gt15.false, le-ltb _ _ c.if-at-ge-ROUND.true)
+
+pub returns-then-position-gt3 : goal.returns-then-position-gt3
+unfolding in_range
+returns-then-position-gt3 c = simp (le-leb _ _ c.if-lines-gt15.false, lt-ltb _ _ c.if-at-ge-ROUND.false, lt-leb _ _ c.if-position-gt3.true)
+
+pub returns : goal.returns
+unfolding in_range
+returns c = simp (le-leb _ _ c.if-lines-gt15.false, lt-ltb _ _ c.if-at-ge-ROUND.false, le-leb _ _ c.if-position-gt3.false)
