@@ -5,4 +5,4 @@ use lib.ListN.{get_or-eq_default}
 use Rattle.port.proofs.nibble_at.Goals as goal
 
 pub returns : goal.returns
-returns c = sym (get_or-eq_default c.args.at 0 (omega arith))
+returns c = sym (get_or-eq_default c.args.memory 0 (omega arith))
