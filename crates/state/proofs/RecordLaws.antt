@@ -31,7 +31,6 @@ use Rattle.settings.specs.Bytes.{settings_at, settings_bytes, settings_over, set
 use Rattle.settings.specs.Settings.{scan_to, part_to}
 use Rattle.settings.proofs.BytesLaws.{all_known_lem}
 use Rattle.port.specs.declared.Port.{Port}
-use Rattle.state.specs.declared.Recalled.{Recalled}
 use Rattle.state.specs.declared.Verdict.TheVariants as verdict
 use Rattle.settings.specs.Numbers.{settings_number}
 use Rattle.state.specs.Answers.{verdict_number, settings_in, nothing_recalled, recalled_from}
