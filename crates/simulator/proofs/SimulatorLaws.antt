@@ -31,7 +31,7 @@ use Rattle.commands.specs.declared.Decoded.TheVariants.{Undefined, Means}
 use Rattle.commands.specs.Commands.{code_meaning}
 use Rattle.frames.specs.declared.Upshot.{Upshot}
 use Rattle.frames.specs.declared.Upshot.TheVariants.{Answered, Nibble, Code}
-use Rattle.chip.specs.Chip.{decoded_answer, obeyed_as, told, settings_after, stepped_to, stepped, advanced}
+use Rattle.chip.specs.Chip.{decoded_answer, obeyed_as, told, settings_after, stepped_to, stepped}
 use Rattle.port.specs.Port.{moved}
 use Rattle.pins.specs.Pins.{pins_shown}
 use Rattle.chip.specs.Valid.{Valid}

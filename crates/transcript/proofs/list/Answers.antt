@@ -1,4 +1,5 @@
 -- `transcript::list` meets its contract: by the lengths it is refused, `long`, or the lines. Assumes nothing.
+use borrow.Author.Rules.{rules}
 use mathlib.Core.Path.{◌≡◌, ap, sym, ◌∙◌}
 use mathlib.Core.List.{List}
 use Prim.Native.Nat.{ℕ, ◌≤◌, ◌<◌}
@@ -12,9 +13,7 @@ use Rattle.ground.specs.Written.{over, Wrote}
 use Rattle.ground.proofs.OutcomesLaws.{refuses, succeeds}
 use Rattle.power.specs.PowerOn.{empty_chip}
 use Rattle.listed.specs.Listing.{long, list_from, listing, room_for, list_answer}
-use borrow.Author.Rules.{rules}
-use Rattle.transcript.proofs.list.Statement.{statement}
-use Rattle.transcript.proofs.list.Tie as tie
+use Rattle.transcript.proofs.list.Goals as goal
 
 too_short : (input buffer : List ℕ) → length buffer < room_for (length input)
     → ComesTo (list_answer input (length buffer)) (listing input) buffer (Refused OutputShort) buffer
@@ -37,56 +36,27 @@ not-long : (input : List ℕ) → length input ≤ 65536 → listing input ≡ l
 unfolding listing
 not-long input h = rw (le-ltb 65536 (length input) h)
 
-room-requires : tie.Need-room-requires
-room-requires c κs = search rules
-
-returns : tie.Need-returns
-returns c =
-    let entry : _ = c.before.before.before.before in
-    too_short entry.args.input.now entry.args.out.now (omega (arith, c.before.room.ensures))
+pub returns-then-out-room : goal.returns-then-out-room
+returns-then-out-room c =
+    let entry : _ = c in
+    too_short entry.args.input.now entry.args.out.now (omega (arith, c.room.ensures))
 
 slice-aggregate-put-bytes : tie.Need-slice-aggregate-put-bytes
 slice-aggregate-put-bytes c = search rules
 
-put-bytes-requires : tie.Need-put-bytes-requires
-put-bytes-requires c κs = search rules
-
-same_length : tie.Need-same-length
-same_length c = search rules
-
-returns-2 : tie.Need-returns-2
-returns-2 c =
-    let at-if2 : _ = c.before.before.before.before.before in
+pub returns-then-input-gt65536 : goal.returns-then-input-gt65536
+returns-then-input-gt65536 c =
+    let at-if2 : _ = c in
     let at_room : _ = at-if2.before.before in
     let entry : _ = at_room.before.before.before in
     written entry.args.input.now long (omega (arith, at_room.room.ensures))
-    (only-long _ at-if2.if2.true) c.before.before.put-bytes.ensures
+    (only-long _ at-if2.if2.true) c.put_bytes.ensures
 
-put-lines-requires : tie.Need-put-lines-requires
-put-lines-requires c κs = search rules
-
-same-length-2 : tie.Need-same-length-2
-same-length-2 c = search rules
-
-returns-3 : tie.Need-returns-3
-returns-3 c =
-    let at-if2 : _ = c.before.before.before.before in
+pub returns : goal.returns
+returns c =
+    let at-if2 : _ = c in
     let at_room : _ = at-if2.before.before in
     let entry : _ = at_room.before.before.before in
     written entry.args.input.now (list_from empty_chip 0 0 0 entry.args.input.now)
     (omega (arith, at_room.room.ensures)) (not-long _ at-if2.if2.false)
-    c.before.before.put-lines.ensures
-
-pub list-spec : {M : Type 1} → statement M
-list-spec =
-    tie.close
-    (tie.spec
-    room-requires
-    returns
-    slice-aggregate-put-bytes
-    put-bytes-requires
-    same_length
-    returns-2
-    put-lines-requires
-    same-length-2
-    returns-3)
+    c.put_lines.ensures
