@@ -1,7 +1,7 @@
 -- A time-out that IRQ DIS has let go of: a tick sets the flag exactly where w comes back to 0, whatever flag and output were, and
 -- moves w alike. So the flag is set again when w of the settings left alone comes round. Assumes nothing.
 use mathlib.Core.Path.{◌≡◌, ◌∙◌, refl, sym, ap}
-use mathlib.Core.Bool.{Bool, true, false, cond, not, ◌&&◌, ◌||◌, or_false, or_assoc, or_comm, and-false, not-and_self}
+use mathlib.Core.Bool.{Bool, true, false, cond, not, ◌&&◌, ◌||◌, or-false, or_assoc, or_comm, and-false, not-and_self}
 use Prim.Native.Nat.{ℕ, zero, suc, ◌+◌, ◌%◌}
 use native.Mathlib.Omega.{arith}
 use lib.Dec.{eqb}
@@ -37,7 +37,7 @@ step_back n = by (eqb ((n + 1) % watchdog_size) 0) refl
 
 -- where w stands it does not, so the flag stands too
 stands : (flag : Bool) (n : ℕ) → flag ≡ (flag || came_back n n)
-stands flag n = sym (ap (λ (b : Bool). flag || b) (not-and_self (eqb n 0)) ∙ or_false flag)
+stands flag n = sym (ap (λ (b : Bool). flag || b) (not-and_self (eqb n 0)) ∙ or-false flag)
 
 -- ---- a tick of the counters
 
@@ -122,7 +122,7 @@ ticked_showing flag on s = by (running s)
 
 advanced_showing : (n : ℕ) (flag on : Bool) (s : Settings) → advanced n (showing flag on s) ≡ showing (flag || comes_round n s) on (advanced n s)
 unfolding advanced
-advanced_showing zero flag on s = ap (λ (f : Bool). showing f on s) (sym (or_false flag))
+advanced_showing zero flag on s = ap (λ (f : Bool). showing f on s) (sym (or-false flag))
 advanced_showing (suc n) flag on s =
     let now = came_back (w s) (w (ticked s)) in
     ap (advanced n) (ticked_showing flag on s)

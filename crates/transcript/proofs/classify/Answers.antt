@@ -24,8 +24,7 @@ returns-then-between c = simp (sym c.between.ensures ∙ c.if-between.true)
 
 pub overflow_sub-result-then-between-2 : goal.overflow_sub-result-then-between-2
 overflow_sub-result-then-between-2 c =
-    let entry : _ = c in
-    no_less 97 _ _ (leb 97 entry.args.byte) refl
+    no_less 97 _ _ (leb 97 c.args.byte) refl
     (sym c.between-2.ensures ∙ c.if-between-2.true)
 
 pub returns-then-between-2 : goal.returns-then-between-2
@@ -48,12 +47,9 @@ returns-then-byte-eq116 c =
 pub returns-then-byte-eq32 : goal.returns-then-byte-eq32
 unfolding class_of
 returns-then-byte-eq32 c =
-    let at-between2 : _ = c in
-    let at-if1 : _ = at-between2.before in
-    let at-between : _ = at-if1.before in
     simp (
-      sym at-between.between.ensures ∙ at-if1.if1.false,
-      sym at-between2.between2.ensures ∙ c.if-between-2.false,
+      sym c.between.ensures ∙ c.if-between.false,
+      sym c.between-2.ensures ∙ c.if-between-2.false,
       ne_eqb _ _ c.if-byte-eq116.false,
       eq-eqb _ _ c.if-byte-eq32.true,
     )
@@ -61,13 +57,9 @@ returns-then-byte-eq32 c =
 pub returns-then-byte-eq10 : goal.returns-then-byte-eq10
 unfolding class_of
 returns-then-byte-eq10 c =
-    let at-if2 : _ = c in
-    let at-between2 : _ = at-if2.before in
-    let at-if1 : _ = at-between2.before in
-    let at-between : _ = at-if1.before in
     simp (
-      sym at-between.between.ensures ∙ at-if1.if1.false,
-      sym at-between2.between2.ensures ∙ at-if2.if2.false,
+      sym c.between.ensures ∙ c.if-between.false,
+      sym c.between-2.ensures ∙ c.if-between-2.false,
       ne_eqb _ _ c.if-byte-eq116.false,
       ne_eqb _ _ c.if-byte-eq32.false,
       eq-eqb _ _ c.if-byte-eq10.true,
@@ -76,13 +68,9 @@ returns-then-byte-eq10 c =
 pub returns : goal.returns
 unfolding class_of
 returns c =
-    let at-if2 : _ = c in
-    let at-between2 : _ = at-if2.before in
-    let at-if1 : _ = at-between2.before in
-    let at-between : _ = at-if1.before in
     simp (
-      sym at-between.between.ensures ∙ at-if1.if1.false,
-      sym at-between2.between2.ensures ∙ at-if2.if2.false,
+      sym c.between.ensures ∙ c.if-between.false,
+      sym c.between-2.ensures ∙ c.if-between-2.false,
       ne_eqb _ _ c.if-byte-eq116.false,
       ne_eqb _ _ c.if-byte-eq32.false,
       ne_eqb _ _ c.if-byte-eq10.false,

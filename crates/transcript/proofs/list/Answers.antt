@@ -1,5 +1,4 @@
 -- `transcript::list` meets its contract: by the lengths it is refused, `long`, or the lines. Assumes nothing.
-use borrow.Author.Rules.{rules}
 use mathlib.Core.Path.{◌≡◌, ap, sym, ◌∙◌}
 use mathlib.Core.List.{List}
 use Prim.Native.Nat.{ℕ, ◌≤◌, ◌<◌}
@@ -38,25 +37,15 @@ not-long input h = rw (le-ltb 65536 (length input) h)
 
 pub returns-then-out-room : goal.returns-then-out-room
 returns-then-out-room c =
-    let entry : _ = c in
-    too_short entry.args.input.now entry.args.out.now (omega (arith, c.room.ensures))
-
-slice-aggregate-put-bytes : tie.Need-slice-aggregate-put-bytes
-slice-aggregate-put-bytes c = search rules
+    too_short c.args.input.now c.args.out.now (omega (arith, c.room.ensures))
 
 pub returns-then-input-gt65536 : goal.returns-then-input-gt65536
 returns-then-input-gt65536 c =
-    let at-if2 : _ = c in
-    let at_room : _ = at-if2.before.before in
-    let entry : _ = at_room.before.before.before in
-    written entry.args.input.now long (omega (arith, at_room.room.ensures))
-    (only-long _ at-if2.if2.true) c.put_bytes.ensures
+    written c.args.input.now long (omega (arith, c.room.ensures))
+    (only-long _ c.if-input-gt65536.true) c.put_bytes.ensures
 
 pub returns : goal.returns
 returns c =
-    let at-if2 : _ = c in
-    let at_room : _ = at-if2.before.before in
-    let entry : _ = at_room.before.before.before in
-    written entry.args.input.now (list_from empty_chip 0 0 0 entry.args.input.now)
-    (omega (arith, at_room.room.ensures)) (not-long _ at-if2.if2.false)
+    written c.args.input.now (list_from empty_chip 0 0 0 c.args.input.now)
+    (omega (arith, c.room.ensures)) (not-long _ c.if-input-gt65536.false)
     c.put_lines.ensures

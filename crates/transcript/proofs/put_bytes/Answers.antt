@@ -58,7 +58,6 @@ shape_of-out c = c.loop-i.invariant.1
 
 pub returns : goal.returns
 returns c =
-    let entry : _ = c in
     let turn : _ = c.loop-i in
-    all entry.args.out.now entry.args.bytes.now turn.out entry.args.at turn.i turn.invariant.2
-    entry.requires (omega arith)
+    all c.args.out.now c.args.bytes.now turn.out c.args.at turn.i turn.invariant.2
+    c.requires (omega arith)
