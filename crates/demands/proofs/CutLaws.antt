@@ -20,7 +20,6 @@ use Rattle.phases.specs.declared.Line.TheVariants.{Released}
 use Rattle.answers.specs.declared.Answer.{Answer}
 use Rattle.answers.specs.declared.Answer.TheVariants.{Nothing, Opened, Stored}
 use Rattle.frames.specs.Frames.{next, reached, frame, closed, taken, ident_taken, identified, write_to_taken, nibble_taken}
-use Rattle.lines.specs.Samples.{levels}
 use Rattle.port.specs.declared.Port.{Port}
 use Rattle.port.specs.Port.{memory_after, framed_by, moved}
 use Rattle.port.specs.Valid.{Nibbles}

@@ -1,7 +1,6 @@
 -- A chip stays of its part, whatever happens to it. Assumes nothing.
 use mathlib.Core.Path.{◌≡◌, ◌∙◌, refl}
-use mathlib.Core.Bool.{Bool, cond}
-use mathlib.Core.List.{List, [], ◌∷◌}
+use mathlib.Core.List.{[], ◌∷◌}
 use lib.Dec.{ltb}
 use Prim.Native.Nat.{◌*◌}
 use Rattle.ground.proofs.ChoiceLaws.{either}
@@ -22,7 +21,7 @@ use Rattle.port.specs.Port.{moved}
 use Rattle.chip.specs.declared.Chip.{Chip}
 use Rattle.chip.specs.declared.Stepped.{Stepped}
 use Rattle.chip.specs.Chip.{obeyed_as, settings_after, stepped_to, stepped}
-use Rattle.demands.specs.Events.{Event, sample, tick, happened, after}
+use Rattle.demands.specs.Events.{Event, sample, tick, happened}
 use Rattle.demands.specs.Parts.{PartStays}
 
 system_part : (source : Source) (s : Settings) → (system_off source s).part ≡ s.part

@@ -13,7 +13,6 @@ use Rattle.ground.specs.Written.{byte}
 use Rattle.ground.specs.Parts.{part_number, parts}
 use Rattle.ground.specs.declared.Part.TheVariants.{Ht}
 use Rattle.ground.proofs.CodesLaws.{case_of_again}
-use native.Mathlib.Omega.{arith}
 use Rattle.settings.proofs.BytesLaws.{settings_has}
 use Rattle.settings.specs.declared.Settings.{Settings}
 use Rattle.ticks.specs.Ticks as ticks
