@@ -34,8 +34,7 @@ fn code_of(answer: Outcome) -> u32
 
 // Power-on: writes the 64-byte record of a chip of the part with this number, with these 32 nibbles for its memory. Refused, in this
 // order: a part that is none; a memory that is not 32 values; a value above 15, with its place; a buffer shorter than 64 bytes.
-#[unsafe(no_mangle)]
-pub extern "C" fn ht1621_power_on(part: usize, memory: &[u8], bytes: &mut [u8]) -> u32
+pub fn ht1621_power_on(part: usize, memory: &[u8], bytes: &mut [u8]) -> u32
     ensures { (result ≡ power_on_returns part memory.now bytes.old)
         × (bytes.new ≡ power_on_bytes part memory.now bytes.old) }
 {
@@ -56,8 +55,7 @@ pub extern "C" fn ht1621_power_on(part: usize, memory: &[u8], bytes: &mut [u8]) 
 
 // The stream that writes nibbles from the address `first` on. Refused as `driver::write` is:
 // 21, 22, 30, 23 with its place, 25.
-#[unsafe(no_mangle)]
-pub extern "C" fn ht1621_write(first: usize, nibbles: &[u8], out: &mut [u8]) -> u32
+pub fn ht1621_write(first: usize, nibbles: &[u8], out: &mut [u8]) -> u32
     ensures { (result ≡ write_returns first nibbles.now out.old)
         × (out.new ≡ write_bytes first nibbles.now out.old) }
 {
@@ -67,8 +65,7 @@ pub extern "C" fn ht1621_write(first: usize, nibbles: &[u8], out: &mut [u8]) -> 
 
 // The stream that reads `count` nibbles from the address `first` on. Refused as `driver::read` is:
 // 21, 22, 30, 25.
-#[unsafe(no_mangle)]
-pub extern "C" fn ht1621_read(first: usize, count: usize, out: &mut [u8]) -> u32
+pub fn ht1621_read(first: usize, count: usize, out: &mut [u8]) -> u32
     ensures { (result ≡ read_returns first count out.old)
         × (out.new ≡ read_bytes first count out.old) }
 {
@@ -78,8 +75,7 @@ pub extern "C" fn ht1621_read(first: usize, count: usize, out: &mut [u8]) -> u32
 
 // The stream that gives commands to a chip of the part with this number, each by the byte of its upper eight bits. Refused as
 // `driver::commands` is: 43, 21, 31, 24 with its place, 25.
-#[unsafe(no_mangle)]
-pub extern "C" fn ht1621_commands(part: usize, codes: &[u8], out: &mut [u8]) -> u32
+pub fn ht1621_commands(part: usize, codes: &[u8], out: &mut [u8]) -> u32
     ensures { (result ≡ commands_returns part codes.now out.old)
         × (out.new ≡ commands_bytes part codes.now out.old) }
 {
@@ -89,8 +85,7 @@ pub extern "C" fn ht1621_commands(part: usize, codes: &[u8], out: &mut [u8]) -> 
 
 // The nibbles that a read noted, a byte for each. Refused as `driver::decode` is:
 // 26, 27 with its place, 25.
-#[unsafe(no_mangle)]
-pub extern "C" fn ht1621_decode(noted: &[u8], out: &mut [u8]) -> u32
+pub fn ht1621_decode(noted: &[u8], out: &mut [u8]) -> u32
     ensures { (result ≡ decode_returns noted.now out.old)
         × (out.new ≡ decode_bytes noted.now out.old) }
 {

@@ -58,8 +58,7 @@ fn show(bytes: &[u8], mask: u8, out: &mut [u8])
 
 // A sample: returns its answer in the lowest byte, the first detail in the next and the second in the third. Only an
 // obeyed command changes the settings; after any other sample the port alone is written back.
-#[unsafe(no_mangle)]
-pub extern "C" fn step(bytes: &mut [u8], sample: u8) -> u32
+pub fn step(bytes: &mut [u8], sample: u8) -> u32
     ensures { (result ≡ step_returns bytes.old sample)
         × (bytes.new ≡ step_bytes bytes.old sample) }
 {
@@ -86,8 +85,7 @@ pub extern "C" fn step(bytes: &mut [u8], sample: u8) -> u32
 }
 
 // So many single ticks: returns 0. They change the counters and the scan alone, so only the bytes from these on are written back.
-#[unsafe(no_mangle)]
-pub extern "C" fn advance(bytes: &mut [u8], n: u16) -> u32
+pub fn advance(bytes: &mut [u8], n: u16) -> u32
     ensures { (result ≡ advance_returns bytes.old)
         × (bytes.new ≡ advance_bytes bytes.old n) }
 {
@@ -100,8 +98,7 @@ pub extern "C" fn advance(bytes: &mut [u8], n: u16) -> u32
 }
 
 // The pins: returns them as one number, and writes the cells that show as 32 nibbles.
-#[unsafe(no_mangle)]
-pub extern "C" fn pins(bytes: &[u8], out: &mut [u8]) -> u32
+pub fn pins(bytes: &[u8], out: &mut [u8]) -> u32
     ensures { (result ≡ pins_returns bytes.now out.old)
         × (out.new ≡ pins_bytes bytes.now out.old) }
 {
