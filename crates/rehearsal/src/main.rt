@@ -62,6 +62,11 @@ fn digit(nibble: u8) -> u8 {
     87 + nibble % 16
 }
 
+// Writes a line.
+fn put(rt: &impl Print, line: [u8; 33]) -> io::Result<()> {
+    rt.write_all(&line)
+}
+
 // Writes the memory of a chip.
 fn show(rt: &impl Print, chip: Chip) -> io::Result<()> {
     let port = chip.port;
@@ -72,7 +77,7 @@ fn show(rt: &impl Print, chip: Chip) -> io::Result<()> {
         line[i] = digit(memory[i]);
         i += 1;
     }
-    rt.write_all(&line)
+    put(rt, line)
 }
 
 fn main(rt: HostRuntime) -> io::Result<()> {
