@@ -1,12 +1,17 @@
 // Reads standard input and writes its listing to standard output. Of the input 65,537 bytes are enough: so many are too
 // many already. The output has the room for any input that is not too long. An input that cannot be read and an output
 // that cannot be written are said on standard error. How it ended it says as a digit, which `./list` makes its status, on
-// descriptor 3, where it is started with an argument. Assumes nothing beyond `libc` and `os`.
+// descriptor 3, where it is started with an argument.
 #![tactic(auto)]
 
-ghost use Rattle.std.specs.Prelude.{◌≡◌, length};
+ghost use Rattle.std.specs.Prelude.{◌≡◌, ◌≤◌, length, IfOk};
 
 use ground::Outcome;
+use std::env;
+use std::fs::{File, OpenFile};
+use std::io;
+use std::io::{Read, Write};
+use std::rt::{Env, Files};
 
 const LISTED: u8 = b'0';
 
@@ -26,10 +31,20 @@ fn out_buffer() -> [u8; 1572880] {
     [0; 1572880]
 }
 
-// How the program ended, for whoever started it with an argument.
-fn end(status: u8) {
-    if os::arg_count() > 1 {
-        io::write_all(3, &[status]);
+// Whether the program was started with an argument: one that is no text counts too.
+fn has_argument(rt: &(impl Env + Alloc)) -> bool {
+    match env::args(rt) {
+        Ok(arguments) => arguments.count() > 1,
+        Err(_) => true,
+    }
+}
+
+// Says on descriptor 3 how the program ended, for whoever started it with an argument. Where nothing is open there it says nothing.
+fn end(rt: &(impl Env + Alloc + Files), status: u8) {
+    if has_argument(rt) {
+        if let Ok(mut descriptor) = File::options().append(true).open(rt, "/dev/fd/3") {
+            let _ = descriptor.write_all(&[status]);
+        }
     }
 }
 
@@ -47,29 +62,55 @@ fn is_whole(listing: &[u8]) -> bool {
     first == b'e'
 }
 
-fn print(listing: &[u8]) {
-    if !io::write_all(libc::STDOUT_FILENO, listing) {
-        os::fail(b"listing: output");
-        end(NOT_WRITTEN);
-    } else if is_whole(listing) {
-        end(LISTED);
-    } else {
-        end(NO_CAPTURE);
+// Says what could not be done, and why: in the system's words, without the number that stands behind them.
+fn complain(rt: &(impl Eprint + Alloc), what: &str, error: io::Error) -> io::Result<()> {
+    let said = format!(in rt.alloc(); "{error}")?;
+    match said.as_str().split_once(" (os error ") {
+        Some((message, _)) => eprintln!(rt; "listing: {what}: {message}"),
+        None => eprintln!(rt; "listing: {what}: {said}"),
     }
 }
 
-fn main() {
-    let mut input = in_buffer();
-    let count = io::read_full(libc::STDIN_FILENO, &mut input);
-    // Zero when a program starts, and a read that fails sets it.
-    if os::errno() != 0 {
-        os::fail(b"listing: input");
-        end(NOT_READ);
-        return;
+// Fills a buffer from standard input as far as that goes, and says how many bytes came.
+fn read_full(reader: &mut impl Read, bytes: &mut [u8]) -> io::Result<usize>
+    ensures { IfOk result (λ count. count ≤ length bytes.new) }
+{
+    let mut done = 0;
+    while done < bytes.len() {
+        let came = reader.read(&mut bytes[done..])?;
+        if came == 0 {
+            break;
+        }
+        done += came;
     }
+    Ok(done)
+}
+
+fn print(rt: &(impl Print + Eprint + Alloc + Env + Files), listing: &[u8]) -> io::Result<()> {
+    if let Err(error) = rt.write_all(listing) {
+        complain(rt, "output", error)?;
+        end(rt, NOT_WRITTEN);
+    } else if is_whole(listing) {
+        end(rt, LISTED);
+    } else {
+        end(rt, NO_CAPTURE);
+    }
+    Ok(())
+}
+
+fn main(rt: HostRuntime) -> io::Result<()> {
+    let mut input = in_buffer();
+    let count = match read_full(&mut rt.reader(), &mut input) {
+        Ok(count) => count,
+        Err(error) => {
+            complain(&rt, "input", error)?;
+            end(&rt, NOT_READ);
+            return Ok(());
+        }
+    };
     let mut out = out_buffer();
     match transcript::list(&input[..count], &mut out) {
-        Outcome::Written(written) => print(&out[..written]),
-        Outcome::Refused(_) => {}
+        Outcome::Written(written) => print(&rt, &out[..written]),
+        Outcome::Refused(_) => Ok(()),
     }
 }

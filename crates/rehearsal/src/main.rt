@@ -1,6 +1,6 @@
 // Rehearses a write that stops: 1, 2, 3, 4, 5 at address 3 on a chip with an empty memory, stopped after 40 of its 61 samples
 // with seven ticks after each, and then sent again. Writes the memory after the stop and after the resend, a line each of 32
-// hex digits. Assumes nothing beyond `libc`.
+// hex digits. Assumes nothing.
 #![tactic(auto)]
 
 ghost use Rattle.std.specs.Prelude.{◌≡◌, take};
@@ -9,6 +9,7 @@ ghost use Rattle.rehearsal.specs.Rehearsal.{paced, Rehearses};
 
 use chip::Chip;
 use ground::{ADDRESSES, Outcome};
+use std::io;
 
 // What a rehearsal comes to: what the driver answered, and the chip where the write was stopped.
 #[derive(Clone, Copy)]
@@ -61,13 +62,8 @@ fn digit(nibble: u8) -> u8 {
     87 + nibble % 16
 }
 
-// Writes a line.
-fn put(line: [u8; 33]) {
-    io::write_all(1, &line);
-}
-
 // Writes the memory of a chip.
-fn show(chip: Chip) {
+fn show(rt: &impl Print, chip: Chip) -> io::Result<()> {
     let port = chip.port;
     let memory = port.memory;
     let mut line = [10u8; 33];
@@ -76,16 +72,16 @@ fn show(chip: Chip) {
         line[i] = digit(memory[i]);
         i += 1;
     }
-    put(line);
+    rt.write_all(&line)
 }
 
-fn main() {
+fn main(rt: HostRuntime) -> io::Result<()> {
     let zeros = [0u8; ADDRESSES];
     let start = power::power_on(0, &zeros);
     let nibbles = [1u8, 2, 3, 4, 5];
     let mut room = [0u8; 277];
     let stopped = rehearse(start.chip, 3, &nibbles, 40, 7, &mut room);
-    show(stopped.chip);
+    show(&rt, stopped.chip)?;
     let resent = rehearse(stopped.chip, 3, &nibbles, 277, 0, &mut room);
-    show(resent.chip);
+    show(&rt, resent.chip)
 }

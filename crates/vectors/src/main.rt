@@ -11,11 +11,14 @@
 //     # WORDS               writes the line as it stands
 // TICKS has 4 digits, ROOM 3, PART, FIRST and COUNT have 16. The buffer lent is as long as ROOM says and filled with 5a before, so
 // that it shows what was not written; for the cells of a capture it is 33 bytes. Of the script 262,144 bytes are read, of a
-// list 160, and at most 600 bytes are lent. Assumes nothing beyond `libc`.
+// list 160, and at most 600 bytes are lent. Assumes nothing.
 #![tactic(auto)]
 
-ghost use Rattle.std.specs.Prelude.{◌≡◌, ◌≤◌, length};
+ghost use Rattle.std.specs.Prelude.{◌≡◌, ◌≤◌, length, IfOk};
 ghost use Rattle.vectors.specs.Vectors.{sample_of};
+
+use std::io;
+use std::io::Read;
 
 // The sample of a digit. A byte that is no digit gives a number too, so that there is nothing to refuse.
 fn sample_of(byte: u8) -> u8
@@ -82,36 +85,28 @@ fn first_of(bytes: &mut [u8], count: usize) -> &mut [u8] {
     &mut bytes[0..count]
 }
 
-// A byte as `io` takes numbers.
-fn wide(byte: u8) -> u64 {
-    byte as u64
-}
-
 // Ends a line.
-fn end_line() {
-    io::write_all(1, b"\n");
+fn end_line(rt: &impl Print) -> io::Result<()> {
+    rt.write_all(b"\n")
 }
 
 // Writes what a call returned.
-fn show_returned(returned: u32) {
-    io::print_hex(1, returned as u64, 1);
-    io::write_all(1, b" ");
+fn show_returned(rt: &impl Print, returned: u32) -> io::Result<()> {
+    print!(rt; "{returned:x} ")
 }
 
 // Writes bytes as a line of hex digits.
-fn show(bytes: &[u8]) {
-    let mut i: usize = 0;
-    while i < bytes.len() {
-        io::print_hex(1, wide(bytes[i]), 2);
-        i += 1;
+fn show(rt: &impl Print, bytes: &[u8]) -> io::Result<()> {
+    for byte in bytes {
+        print!(rt; "{byte:02x}")?;
     }
-    end_line();
+    end_line(rt)
 }
 
 // Writes a line as it stands.
-fn repeat(line: &[u8]) {
-    io::write_all(1, line);
-    end_line();
+fn repeat(rt: &impl Print, line: &[u8]) -> io::Result<()> {
+    rt.write_all(line)?;
+    end_line(rt)
 }
 
 // The letter of a line.
@@ -131,13 +126,14 @@ fn stepped(record: &mut [u8], byte: u8, ticks: u16) -> u32 {
 }
 
 // All calls of a capture.
-fn run(line: &[u8], record: &mut [u8]) {
+fn run(rt: &impl Print, line: &[u8], record: &mut [u8]) -> io::Result<()> {
     let ticks = (field(line, 2, 6) % 65536) as u16;
     let mut i: usize = 7;
     while i < line.len() {
-        show_returned(stepped(record, line[i], ticks));
+        show_returned(rt, stepped(record, line[i], ticks))?;
         i += 1;
     }
+    Ok(())
 }
 
 // The call that a letter stands for, of those that lend a buffer. Another letter calls nothing and comes to 0.
@@ -156,41 +152,41 @@ fn called(letter: u8, line: &[u8], bytes: &[u8], out: &mut [u8]) -> u32 {
 }
 
 // Makes such a call, and writes what it returned and the buffer.
-fn show_called(letter: u8, line: &[u8], bytes: &[u8], out: &mut [u8]) {
-    show_returned(called(letter, line, bytes, out));
-    show(out);
+fn show_called(rt: &impl Print, letter: u8, line: &[u8], bytes: &[u8], out: &mut [u8]) -> io::Result<()> {
+    show_returned(rt, called(letter, line, bytes, out))?;
+    show(rt, out)
 }
 
 // Runs a capture, and writes the pins, the cells and the bytes of the record that it leaves.
-fn show_run(line: &[u8], record: &mut [u8], cells: &mut [u8]) {
-    run(line, record);
-    end_line();
-    show_called(b'p', line, record, cells);
-    show(record);
+fn show_run(rt: &impl Print, line: &[u8], record: &mut [u8], cells: &mut [u8]) -> io::Result<()> {
+    run(rt, line, record)?;
+    end_line(rt)?;
+    show_called(rt, b'p', line, record, cells)?;
+    show(rt, record)
 }
 
 // Answers a line about a list of bytes, with a buffer to lend.
-fn answer_about(line: &[u8], bytes: &mut [u8], space: &mut [u8]) {
+fn answer_about(rt: &impl Print, line: &[u8], bytes: &mut [u8], space: &mut [u8]) -> io::Result<()> {
     let letter = letter_of(line);
     match letter {
-        b'=' => {}
-        b'#' => repeat(line),
-        b's' => show_run(line, bytes, first_of(space, 33)),
-        _ => show_called(letter, line, bytes, first_of(space, field(line, 2, 5))),
+        b'=' => Ok(()),
+        b'#' => repeat(rt, line),
+        b's' => show_run(rt, line, bytes, first_of(space, 33)),
+        _ => show_called(rt, letter, line, bytes, first_of(space, field(line, 2, 5))),
     }
 }
 
 // Answers a line, given the line of its list and the space for the list's bytes and for the buffer.
-fn answer_with(line: &[u8], list: &[u8], bytes: &mut [u8], space: &mut [u8]) {
+fn answer_with(rt: &impl Print, line: &[u8], list: &[u8], bytes: &mut [u8], space: &mut [u8]) -> io::Result<()> {
     let count = put_list(list, bytes);
-    answer_about(line, first_of(bytes, count), space);
+    answer_about(rt, line, first_of(bytes, count), space)
 }
 
 // Answers a line, given the line of the list that it is about.
-fn answer(line: &[u8], list: &[u8]) {
+fn answer(rt: &impl Print, line: &[u8], list: &[u8]) -> io::Result<()> {
     let mut bytes = [0u8; 160];
     let mut space = [90u8; 600];
-    answer_with(line, list, &mut bytes, &mut space);
+    answer_with(rt, line, list, &mut bytes, &mut space)
 }
 
 // Where the line that starts at a place ends.
@@ -227,19 +223,35 @@ fn list_from(byte: u8, start: usize, before: usize) -> usize {
 }
 
 // Answers every line.
-fn answer_all(script: &[u8]) {
+fn answer_all(rt: &impl Print, script: &[u8]) -> io::Result<()> {
     let mut list: usize = 0;
     let mut start: usize = 0;
     while start < script.len() {
         let end = line_end(script, start);
         list = list_from(script[start], start, list);
-        answer(&script[start..end], line_at(script, list));
+        answer(rt, &script[start..end], line_at(script, list))?;
         start = end + 1;
     }
+    Ok(())
 }
 
-fn main() {
+// Fills a buffer from standard input as far as that goes, and says how many bytes came.
+fn read_full(reader: &mut impl Read, bytes: &mut [u8]) -> io::Result<usize>
+    ensures { IfOk result (λ count. count ≤ length bytes.new) }
+{
+    let mut done = 0;
+    while done < bytes.len() {
+        let came = reader.read(&mut bytes[done..])?;
+        if came == 0 {
+            break;
+        }
+        done += came;
+    }
+    Ok(done)
+}
+
+fn main(rt: HostRuntime) -> io::Result<()> {
     let mut input = [0u8; 262144];
-    let count = io::read_full(0, &mut input);
-    answer_all(&input[..count]);
+    let count = read_full(&mut rt.reader(), &mut input)?;
+    answer_all(&rt, &input[..count])
 }
