@@ -7,11 +7,10 @@
 ghost use Rattle.std.specs.Prelude.{◌≡◌, ◌≤◌, length, IfOk};
 
 use ground::Outcome;
-use std::env;
 use std::fs::{File, OpenFile};
-use std::io;
 use std::io::{Read, Write};
 use std::rt::{Env, Files};
+use std::{env, io};
 
 const LISTED: u8 = b'0';
 

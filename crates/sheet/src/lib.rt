@@ -2,4 +2,3 @@
 // bytes and numbers. It has no code: its statements are in specs/, and proofs/ proves them of the calls. A rule that is wrong in
 // the model's definition and in its code alike is refused here. Assumes nothing.
 #![tactic(auto)]
-

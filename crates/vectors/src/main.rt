@@ -152,7 +152,13 @@ fn called(letter: u8, line: &[u8], bytes: &[u8], out: &mut [u8]) -> u32 {
 }
 
 // Makes such a call, and writes what it returned and the buffer.
-fn show_called(rt: &impl Print, letter: u8, line: &[u8], bytes: &[u8], out: &mut [u8]) -> io::Result<()> {
+fn show_called(
+    rt: &impl Print,
+    letter: u8,
+    line: &[u8],
+    bytes: &[u8],
+    out: &mut [u8],
+) -> io::Result<()> {
     show_returned(rt, called(letter, line, bytes, out))?;
     show(rt, out)
 }
@@ -166,7 +172,12 @@ fn show_run(rt: &impl Print, line: &[u8], record: &mut [u8], cells: &mut [u8]) -
 }
 
 // Answers a line about a list of bytes, with a buffer to lend.
-fn answer_about(rt: &impl Print, line: &[u8], bytes: &mut [u8], space: &mut [u8]) -> io::Result<()> {
+fn answer_about(
+    rt: &impl Print,
+    line: &[u8],
+    bytes: &mut [u8],
+    space: &mut [u8],
+) -> io::Result<()> {
     let letter = letter_of(line);
     match letter {
         b'=' => Ok(()),
@@ -177,7 +188,13 @@ fn answer_about(rt: &impl Print, line: &[u8], bytes: &mut [u8], space: &mut [u8]
 }
 
 // Answers a line, given the line of its list and the space for the list's bytes and for the buffer.
-fn answer_with(rt: &impl Print, line: &[u8], list: &[u8], bytes: &mut [u8], space: &mut [u8]) -> io::Result<()> {
+fn answer_with(
+    rt: &impl Print,
+    line: &[u8],
+    list: &[u8],
+    bytes: &mut [u8],
+    space: &mut [u8],
+) -> io::Result<()> {
     let count = put_list(list, bytes);
     answer_about(rt, line, first_of(bytes, count), space)
 }

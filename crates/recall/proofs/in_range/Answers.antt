@@ -20,12 +20,11 @@ returns-then-most-i c =
     rw (eq-eqb _ _ c.if-bytes-ne-RECORD_LENGTH.false) (sym (and_fails _ _ above))
 
 pub loop-i-preserved : goal.loop-i-preserved
-loop-i-preserved c =
-    (
-      omega arith,
-      sym (range_passes c.args.bytes.now c.if-bytes-ne-RECORD_LENGTH.false c.loop-i.i c.loop-i-test.true c.if-most-i.false)
-          ∙ c.loop-i.invariant.1,
-    )
+loop-i-preserved c = (
+  omega arith,
+  sym (range_passes c.args.bytes.now c.if-bytes-ne-RECORD_LENGTH.false c.loop-i.i c.loop-i-test.true c.if-most-i.false)
+      ∙ c.loop-i.invariant.1,
+)
 
 pub returns : goal.returns
 returns c =

@@ -23,7 +23,7 @@ loop-i-preserved c = (
         nibble_passed c.args.bytes.now c.loop-i.i c.if-bytes-ne-RECORD_LENGTH.false c.loop-i-test.true c.loop-i.right _
         w.if-bytes-i-gt15.false w.right-is
   ]
-  ∙ c.loop-i.invariant.1,
+      ∙ c.loop-i.invariant.1,
 )
 
 pub returns : goal.returns

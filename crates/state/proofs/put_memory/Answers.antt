@@ -12,8 +12,7 @@ loop-i-init c = (omega arith, refl, paste-zero c.args.out.now 0 c.args.memory)
 
 pub loop-i-preserved : goal.loop-i-preserved
 loop-i-preserved c =
-    let turn = c.loop-i in
-    (
+    let turn = c.loop-i in (
       omega arith,
       length-set turn.out turn.i _ ∙ turn.invariant.1,
       paste_next c.args.out.now c.args.memory turn.out turn.i turn.invariant.2 (omega arith) (search rules),
@@ -24,8 +23,7 @@ shape_of-out c = c.loop-i.invariant.1
 
 pub returns : goal.returns
 returns c =
-    let ended = c.loop-i in
-    (
+    let ended = c.loop-i in (
       search rules,
       put_whole c.args.out.now c.args.memory ended.out 0 ended.i ended.invariant.2 (search rules),
     )
