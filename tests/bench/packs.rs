@@ -95,15 +95,15 @@ extern "C" fn put(_: i32, from: *const u8, count: usize) -> isize {
     count as isize
 }
 
-// The listing asks whether a read failed, and whether it was started with an argument: neither.
-#[no_mangle]
-extern "C" fn rattle_errno() -> i32 {
-    0
+// The listing asks whether it can go back in its input, and for its arguments: it cannot, and there are none.
+#[export_name = "listing_lseek"]
+extern "C" fn seek(_: i32, _: i64, _: i32) -> i64 {
+    -1
 }
 
-#[no_mangle]
-extern "C" fn rattle_arg_count() -> usize {
-    1
+#[export_name = "listing_rattle_arg"]
+extern "C" fn argument(_: usize, _: *mut u8, _: usize) -> isize {
+    -1
 }
 
 // ---- the four ----

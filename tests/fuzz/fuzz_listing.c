@@ -1,6 +1,6 @@
-/* The listing program under a fuzzer. Its main, and the read and write that it calls, are renamed, so that it reads a capture
-   from memory and writes its listing there, in pieces of all sizes; the listing has to be the model's, and the status that the program
-   tells on descriptor 3 the one that goes with it.
+/* The listing program under a fuzzer. Its main, and what it calls to read, to write and to see its surroundings, are renamed, so that it
+   reads a capture from memory and writes its listing there, in pieces of all sizes; the listing has to be the model's, and the status that
+   the program tells on descriptor 3 the one that goes with it.
 
    An input is the capture. If its last byte is above 247 it is taken off, and the capture is what stands before it 2, 4, 8 ..
    256 times, so that a small file reaches the limit of 65,536 bytes. */
@@ -20,11 +20,28 @@ static uint8_t capture[CAPTURE_MOST], listing[LISTING_MOST], due[LISTING_MOST];
 static size_t capture_bytes, taken, listed;
 static uint8_t told;
 
-/* What the program asks of its surroundings: no read fails, and it was started with an argument. */
-int rattle_errno(void);
-size_t rattle_arg_count(void);
-int rattle_errno(void) { return 0; }
-size_t rattle_arg_count(void) { return 2; }
+/* What the program asks of its surroundings: standard input is a pipe, it was started with an argument, and descriptor 3 is open. */
+enum { NO_SUCH = -1, NO_ROOM = -2 };
+long listing_lseek(int file, long offset, int whence);
+long listing_rattle_arg(size_t i, uint8_t *bytes, size_t room);
+int listing_open(const char *path, int flags, ...);
+int listing_close(int file);
+
+long listing_lseek(int file, long offset, int whence) { return file == 0 && offset == 0 && whence == SEEK_CUR ? -1 : (abort(), 0); }
+
+/* Argument i of the program's, and how many bytes that is. */
+long listing_rattle_arg(size_t i, uint8_t *bytes, size_t room) {
+    static const char *const arguments[] = {"listing", "status"};
+    if (i >= sizeof arguments / sizeof arguments[0]) return NO_SUCH;
+    size_t length = strlen(arguments[i]);
+    if (length > room) return NO_ROOM;
+    memcpy(bytes, arguments[i], length);
+    return (long)length;
+}
+
+int listing_open(const char *path, int flags, ...) { return flags && strcmp(path, "/dev/fd/3") == 0 ? 3 : (abort(), 0); }
+
+int listing_close(int file) { return file == 3 ? 0 : (abort(), 0); }
 
 /* The next piece of what is left: the whole of small ones, and parts of all sizes of large ones. */
 static size_t piece(size_t wanted, size_t there) {
