@@ -8,7 +8,8 @@ ghost use Rattle.std.specs.Prelude.{◌≡◌, ◌≤◌, length, IfOk};
 
 use ground::Outcome;
 use std::fs::{File, OpenFile};
-use std::io::{Read, Write};
+use std::io::{ErrorKind, Read, Write};
+use std::process::ExitCode;
 use std::rt::{Env, Files};
 use std::{env, io};
 
@@ -19,6 +20,9 @@ const NO_CAPTURE: u8 = b'1';
 const NOT_READ: u8 = b'3';
 
 const NOT_WRITTEN: u8 = b'4';
+
+// The status by which a shell tells a program that a closed pipe ended.
+const PIPE_CLOSED: u8 = 141;
 
 fn in_buffer() -> [u8; 65537]
     ensures { 65537 ≡ length result }
@@ -61,7 +65,7 @@ fn is_whole(listing: &[u8]) -> bool {
     first == b'e'
 }
 
-// Says what could not be done, and why: in the system's words, without the number that stands behind them.
+// Says on standard error what could not be done, and why: in the system's words, without the number that stands behind them.
 fn complain(rt: &(impl Eprint + Alloc), what: &str, error: io::Error) -> io::Result<()> {
     let said = format!(in rt.alloc(); "{error}")?;
     match said.as_str().split_once(" (os error ") {
@@ -85,31 +89,36 @@ fn read_full(reader: &mut impl Read, bytes: &mut [u8]) -> io::Result<usize>
     Ok(done)
 }
 
-fn print(rt: &(impl Print + Eprint + Alloc + Env + Files), listing: &[u8]) -> io::Result<()> {
+// Writes the listing, and says how the program ended. A pipe that nobody reads any more ends it without a word, as the signal would
+// that other programs get then: a shell knows that by its status.
+fn print(rt: &(impl Print + Eprint + Alloc + Env + Files), listing: &[u8]) -> ExitCode {
     if let Err(error) = rt.write_all(listing) {
-        complain(rt, "output", error)?;
+        if error.kind() == ErrorKind::BrokenPipe {
+            return ExitCode::from(PIPE_CLOSED);
+        }
+        let _ = complain(rt, "output", error);
         end(rt, NOT_WRITTEN);
     } else if is_whole(listing) {
         end(rt, LISTED);
     } else {
         end(rt, NO_CAPTURE);
     }
-    Ok(())
+    ExitCode::SUCCESS
 }
 
-fn main(rt: HostRuntime) -> io::Result<()> {
+fn main(rt: HostRuntime) -> ExitCode {
     let mut input = in_buffer();
     let count = match read_full(&mut rt.reader(), &mut input) {
         Ok(count) => count,
         Err(error) => {
-            complain(&rt, "input", error)?;
+            let _ = complain(&rt, "input", error);
             end(&rt, NOT_READ);
-            return Ok(());
+            return ExitCode::SUCCESS;
         }
     };
     let mut out = out_buffer();
     match transcript::list(&input[..count], &mut out) {
         Outcome::Written(written) => print(&rt, &out[..written]),
-        Outcome::Refused(_) => Ok(()),
+        Outcome::Refused(_) => ExitCode::SUCCESS,
     }
 }
