@@ -17,9 +17,8 @@ use Rattle.inplace.specs.contracts.step_in_place as step_in_place
 use Rattle.inplace.proofs.step_by_lending.Kinds as step_by_lending_kinds
 use Rattle.inplace.proofs.step_by_lending.Reads as step_by_lending_reads
 
--- Rattle reads no plain statement off a contract that lends a struct, so the rule is stated of the contract's own clause, in
--- every model: two ends that it permits for the same arguments say together that the answers returned are equal, and that the
--- chips which then stand there are.
+-- Of the contract that lends a struct the rule is stated by the contract's own clause, in every model: two ends that it permits
+-- for the same arguments say together that the answers returned are equal, and that the chips which then stand there are.
 pub step_in_place_determined : {M : Type 1} {𝓤 : Ura M} (𝓛 : Logic 𝓤) (at_mem : Memory → SProp 𝓤)
     (run : Routine → Fun 𝓤) (κs : Lfts 1) (args : Args step_in_place.signature κs) (x y : Answer)
     (end end' : AtExit step_in_place.ended κs)

@@ -38,7 +38,7 @@ fn out_buffer() -> [u8; 1572880] {
 fn has_argument(rt: &(impl Env + Alloc)) -> bool {
     match env::args(rt) {
         Ok(arguments) => arguments.count() > 1,
-        Err(_) => true,
+        Err(error) => error.kind() == ErrorKind::InvalidData,
     }
 }
 

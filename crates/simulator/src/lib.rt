@@ -45,8 +45,8 @@ fn pins_code(settings: Settings, line: u8) -> u32
 
 // The memory's bytes under a mask over the start of a buffer.
 fn show(bytes: &[u8], mask: u8, out: &mut [u8])
-    requires addresses_in_bounds { addresses ≤ length bytes.now }
-    requires addresses_in_bounds_2 { addresses ≤ length out.old }
+    requires memory_there { addresses ≤ length bytes.now }
+    requires room_for_cells { addresses ≤ length out.old }
     ensures { out.new ≡ over out.old 0 (map (λ n. bit_and n mask) (take addresses bytes.now)) }
 {
     let mut i: usize = 0;

@@ -23,7 +23,7 @@ pub show-requires : goal.show-requires
 show-requires c =
     let start = c.args in
     let long = pins_long start.bytes.now start.out.now c.settings_in.result c.settings_in.ensures _ c.in-Set.is in
-    record { addresses_in_bounds = omega (arith, long); addresses_in_bounds_2 = search rules }
+    record { memory_there = omega (arith, long); room_for_cells = search rules }
 
 pub bounds-bytes-39 : goal.bounds-bytes-39
 bounds-bytes-39 c =
