@@ -218,9 +218,10 @@ impl Watchdog {
     {
         let sum = self.count as u32 + steps as u32;
         let count = landed(steps, self.count, (sum % WATCHDOG_SIZE) as u8);
+        let round = self.count as u32 / WATCHDOG_SIZE < sum / WATCHDOG_SIZE;
         Watchdog {
             count,
-            flag: self.count as u32 / WATCHDOG_SIZE < sum / WATCHDOG_SIZE || self.flag,
+            flag: round || self.flag,
         }
     }
 }

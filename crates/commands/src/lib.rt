@@ -89,7 +89,8 @@ pub enum Decoded {
 fn swapped(code: usize) -> usize
     ensures { result ≡ swapped code }
 {
-    if code < 0x14 {
+    let below_both = code < 0x14;
+    if below_both {
         return code;
     }
     if code < 0x18 {

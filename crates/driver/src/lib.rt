@@ -25,7 +25,8 @@ pub fn write(first: usize, nibbles: &[u8], out: &mut [u8]) -> Outcome
         (write_stream first nibbles.now)
         out.old result out.new }
 {
-    if nibbles.len() == 0 {
+    let nothing = nibbles.len() == 0;
+    if nothing {
         return Outcome::Refused(Refusal::NothingAsked);
     }
     if ground::ADDRESSES <= first {
@@ -49,7 +50,8 @@ pub fn read(first: usize, count: usize, out: &mut [u8]) -> Outcome
         (read_stream first count)
         out.old result out.new }
 {
-    if count == 0 {
+    let nothing = count == 0;
+    if nothing {
         return Outcome::Refused(Refusal::NothingAsked);
     }
     if ground::ADDRESSES <= first {
@@ -97,7 +99,8 @@ pub fn decode(noted: &[u8], out: &mut [u8]) -> Outcome
     if noted.len() == 0 {
         return Outcome::Refused(Refusal::NotedCount);
     }
-    if MOST_NOTES < noted.len() {
+    let too_many = MOST_NOTES < noted.len();
+    if too_many {
         return Outcome::Refused(Refusal::NotedCount);
     }
     if noted.len() % streams::NIBBLE_NOTES != 0 {

@@ -134,7 +134,8 @@ fn take_nibble(bit: bool, count: u8, value: u16, at: u8, position: u8) -> Framed
     ensures { result ≡ nibble_taken bit count value at position }
 {
     let bits = with_bit(value, bit);
-    if count < 3 {
+    let unfinished = count < 3;
+    if unfinished {
         return collect(Phase::Writing(count + 1, bits, at, position));
     }
     Framed {

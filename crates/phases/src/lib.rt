@@ -170,7 +170,8 @@ pub fn write_frame(levels: Levels, phase: Phase, line: Line, out: &mut [u8]) -> 
     ensures { (result ≡ written_as 8 out.old)
         × (out.new ≡ frame_over levels phase line out.old) }
 {
-    if out.len() < ground::RECORD_LENGTH {
+    let short = out.len() < ground::RECORD_LENGTH;
+    if short {
         return Outcome::Refused(Refusal::OutputShort);
     }
     let value = phase.value();

@@ -61,7 +61,8 @@ pub fn power_on(number: usize, memory: &[u8]) -> PoweredOn
     let PartRead::Known(part) = ground::part_of(number) else {
         return not_started(Refusal::UnknownPart);
     };
-    if memory.len() != ADDRESSES {
+    let miscounted = memory.len() != ADDRESSES;
+    if miscounted {
         return not_started(Refusal::MemoryCount);
     }
     let place = ground::first_above(memory, 15);

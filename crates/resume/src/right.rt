@@ -9,7 +9,8 @@ fn in_range(lines: u8, at: u8, position: u8, line: u8) -> bool
     if 15 < lines {
         return false;
     }
-    if phases::ROUND <= at as u16 {
+    let past_all = phases::ROUND <= at as u16;
+    if past_all {
         return false;
     }
     if 3 < position {

@@ -45,13 +45,15 @@ fn nothing_recalled() -> Recalled
 fn memory_right(bytes: &[u8]) -> bool
     ensures { result ≡ (eqb (length bytes.now) record_length && memory_fits bytes.now) }
 {
-    if bytes.len() != RECORD_LENGTH {
+    let miscounted = bytes.len() != RECORD_LENGTH;
+    if miscounted {
         return false;
     }
     let mut right = true;
     let mut i: usize = 0;
     while i < ADDRESSES {
-        if 15 < bytes[i] {
+        let above = 15 < bytes[i];
+        if above {
             right = false;
         }
         i += 1;

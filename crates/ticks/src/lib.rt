@@ -27,7 +27,8 @@ pub fn running(settings: Settings) -> bool
 pub fn advanced(settings: Settings, ticks: u16) -> Settings
     ensures { result ≡ advanced ticks settings }
 {
-    if running(settings) {
+    let runs = running(settings);
+    if runs {
         let system = settings.system;
         let source = system.source;
         let lcd = settings.lcd;

@@ -194,7 +194,8 @@ pub fn list(input: &[u8], out: &mut [u8]) -> Outcome
     if out.len() < room(input.len()) {
         return Outcome::Refused(Refusal::OutputShort);
     }
-    if 65536 < input.len() {
+    let too_long = 65536 < input.len();
+    if too_long {
         return Outcome::Written(put_bytes(out, 0, b"long\n"));
     }
     Outcome::Written(put_lines(input, out))

@@ -17,9 +17,9 @@ pub returns-then-noted-eq0 : goal.returns-then-noted-eq0
 unfolding decode_answer miscounted
 returns-then-noted-eq0 c = refuses (simp (eq-eqb (length c.args.noted.now) 0 (omega arith)))
 
-pub returns-then-noted-gt-MOST_NOTES : goal.returns-then-noted-gt-MOST_NOTES
+pub returns-then-too_many : goal.returns-then-too_many
 unfolding decode_answer miscounted
-returns-then-noted-gt-MOST_NOTES c =
+returns-then-too_many c =
     let count = length c.args.noted.now in
     refuses (simp (ne_eqb _ 0 c.if-noted-eq0.false, lt-ltb most_notes count (omega arith)))
 

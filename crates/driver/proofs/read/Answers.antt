@@ -8,15 +8,15 @@ use Rattle.streams.proofs.SentLaws.{sends_due}
 use Rattle.driver.specs.Refusals.{last_address, read_answer}
 use Rattle.driver.proofs.read.Goals as goal
 
-pub returns-then-count-eq0 : goal.returns-then-count-eq0
+pub returns-then-nothing : goal.returns-then-nothing
 unfolding read_answer
-returns-then-count-eq0 c = refuses (simp (eq-eqb c.args.count 0 (omega arith)))
+returns-then-nothing c = refuses (simp (eq-eqb c.args.count 0 (omega arith)))
 
 pub returns-then-first-ge-ADDRESSES : goal.returns-then-first-ge-ADDRESSES
 unfolding read_answer
 returns-then-first-ge-ADDRESSES c =
     let first = c.args.first in
-    refuses (simp (ne_eqb _ 0 c.if-count-eq0.false, lt-ltb last_address first (omega arith)))
+    refuses (simp (ne_eqb _ 0 c.if-nothing.false, lt-ltb last_address first (omega arith)))
 
 pub returns-then-first-count : goal.returns-then-first-count
 unfolding read_answer
@@ -24,7 +24,7 @@ returns-then-first-count c =
     let first = c.args.first in
     refuses
     (simp (
-      ne_eqb _ 0 c.if-count-eq0.false,
+      ne_eqb _ 0 c.if-nothing.false,
       le-ltb last_address first (omega arith),
       lt-ltb addresses (first + c.args.count) (omega arith),
     ))
@@ -35,7 +35,7 @@ returns c =
     let first = c.args.first in
     sends_due
     (simp (
-      ne_eqb _ 0 c.if-count-eq0.false,
+      ne_eqb _ 0 c.if-nothing.false,
       le-ltb last_address first (omega arith),
       le-ltb addresses (first + c.args.count) (omega arith),
     ))

@@ -10,14 +10,14 @@ use Rattle.streams.proofs.SentLaws.{sends_due}
 use Rattle.driver.specs.Refusals.{last_address, write_answer}
 use Rattle.driver.proofs.write.Goals as goal
 
-pub returns-then-nibbles-eq0 : goal.returns-then-nibbles-eq0
+pub returns-then-nothing : goal.returns-then-nothing
 unfolding write_answer
-returns-then-nibbles-eq0 c = refuses (simp (eq-eqb (length c.args.nibbles.now) 0 (omega arith)))
+returns-then-nothing c = refuses (simp (eq-eqb (length c.args.nibbles.now) 0 (omega arith)))
 
 pub returns-then-first-ge-ADDRESSES : goal.returns-then-first-ge-ADDRESSES
 unfolding write_answer
 returns-then-first-ge-ADDRESSES c =
-    refuses (simp (ne_eqb _ 0 c.if-nibbles-eq0.false, lt-ltb last_address c.args.first (omega arith)))
+    refuses (simp (ne_eqb _ 0 c.if-nothing.false, lt-ltb last_address c.args.first (omega arith)))
 
 pub returns-then-first-nibbles : goal.returns-then-first-nibbles
 unfolding write_answer
@@ -25,7 +25,7 @@ returns-then-first-nibbles c =
     let first = c.args.first in
     refuses
     (simp (
-      ne_eqb _ 0 c.if-nibbles-eq0.false,
+      ne_eqb _ 0 c.if-nothing.false,
       le-ltb last_address first (omega arith),
       lt-ltb addresses (first + length c.args.nibbles.now) (omega arith),
     ))
@@ -36,7 +36,7 @@ returns-then-place-nibbles c =
     let first = c.args.first in
     refuses
     (simp (
-      ne_eqb _ 0 c.if-nibbles-eq0.false,
+      ne_eqb _ 0 c.if-nothing.false,
       le-ltb last_address first (omega arith),
       le-ltb addresses (first + length c.args.nibbles.now) (omega arith),
       sym c.first_above-place.ensures,
@@ -49,7 +49,7 @@ returns c =
     let first = c.args.first in
     sends_due
     (simp (
-      ne_eqb _ 0 c.if-nibbles-eq0.false,
+      ne_eqb _ 0 c.if-nothing.false,
       le-ltb last_address first (omega arith),
       le-ltb addresses (first + length c.args.nibbles.now) (omega arith),
       sym c.first_above-place.ensures,

@@ -3,9 +3,9 @@ use Rattle.frames.specs.Frames.{nibble_taken}
 use borrow.Author.Tests.{lt-ltb, le-ltb}
 use Rattle.frames.proofs.take_nibble.Goals as goal
 
-pub returns-then-count-lt3 : goal.returns-then-count-lt3
+pub returns-then-unfinished : goal.returns-then-unfinished
 unfolding nibble_taken
-returns-then-count-lt3 c = simp (c.collect.ensures, lt-ltb _ _ c.if-count-lt3.true, c.with_bit-bits.ensures)
+returns-then-unfinished c = simp (c.collect.ensures, lt-ltb _ _ c.if-unfinished.true, c.with_bit-bits.ensures)
 
 pub returns : goal.returns
 unfolding nibble_taken
@@ -13,6 +13,6 @@ returns c =
     simp (
       c.nibble_of.ensures,
       c.next_of.ensures,
-      le-ltb _ _ c.if-count-lt3.false,
+      le-ltb _ _ c.if-unfinished.false,
       c.with_bit-bits.ensures,
     )

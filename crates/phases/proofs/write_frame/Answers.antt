@@ -7,9 +7,9 @@ use Rattle.ground.specs.Outcomes.{written_as}
 use Rattle.phases.specs.Frame.{frame_at, frame_bytes, frame_over}
 use Rattle.phases.proofs.write_frame.Goals as goal
 
-pub returns-then-out-lt-RECORD_LENGTH : goal.returns-then-out-lt-RECORD_LENGTH
+pub returns-then-short : goal.returns-then-short
 unfolding written_as frame_over
-returns-then-out-lt-RECORD_LENGTH c = (simp (lt-ltb _ _ c.if-out-lt-RECORD_LENGTH.true), simp (lt-ltb _ _ c.if-out-lt-RECORD_LENGTH.true))
+returns-then-short c = (simp (lt-ltb _ _ c.if-short.true), simp (lt-ltb _ _ c.if-short.true))
 
 pub bounds-out-33 : goal.bounds-out-33
 bounds-out-33 c = simp length-set (omega arith)
@@ -39,8 +39,8 @@ pub returns : goal.returns
 unfolding written_as frame_over
 returns c =
     let start = c.args in (
-      simp (le-ltb _ _ c.if-out-lt-RECORD_LENGTH.false),
-      rw (le-ltb _ _ c.if-out-lt-RECORD_LENGTH.false)
+      simp (le-ltb _ _ c.if-short.false),
+      rw (le-ltb _ _ c.if-short.false)
           (simp (
             c.number-3.ensures,
             c.position.ensures,
@@ -50,5 +50,5 @@ returns c =
             c.number.ensures,
             c.value-value.ensures,
           )
-          (sets-eq (frame_bytes start.levels start.phase start.line) start.out.now frame_at (omega (arith, c.if-out-lt-RECORD_LENGTH.false)))),
+          (sets-eq (frame_bytes start.levels start.phase start.line) start.out.now frame_at (omega (arith, c.if-short.false)))),
     )

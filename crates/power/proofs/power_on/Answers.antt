@@ -12,11 +12,11 @@ unfolding powered_on
 returns-in_default c =
     simp (c.not_started.ensures, part_none _ (sym c.part_of.ensures ∙ c.in_default.is))
 
-pub returns-then-memory-ne-ADDRESSES : goal.returns-then-memory-ne-ADDRESSES
+pub returns-then-miscounted : goal.returns-then-miscounted
 unfolding powered_on
-returns-then-memory-ne-ADDRESSES c =
+returns-then-miscounted c =
     let part = part_found _ _ Ht (sym c.part_of.ensures ∙ c.in-Known.is) in
-    simp (part.0, c.not_started-then-memory-ne-ADDRESSES.ensures, ne_eqb _ _ c.if-memory-ne-ADDRESSES.true)
+    simp (part.0, c.not_started-then-miscounted.ensures, ne_eqb _ _ c.if-miscounted.true)
 
 pub returns-then-place-memory : goal.returns-then-place-memory
 unfolding powered_on
@@ -25,7 +25,7 @@ returns-then-place-memory c =
     simp (
       part.0,
       c.not_started-then-place-memory.ensures,
-      eq-eqb _ _ c.if-memory-ne-ADDRESSES.false,
+      eq-eqb _ _ c.if-miscounted.false,
       sym c.first_above-place.ensures,
       lt-ltb _ _ c.if-place-memory.true,
     )
@@ -39,8 +39,8 @@ returns c =
       part.1,
       c.fresh.ensures,
       c.memory_from.ensures,
-      memory_from_all c.args.memory.now c.if-memory-ne-ADDRESSES.false,
-      eq-eqb _ _ c.if-memory-ne-ADDRESSES.false,
+      memory_from_all c.args.memory.now c.if-miscounted.false,
+      eq-eqb _ _ c.if-miscounted.false,
       sym c.first_above-place.ensures,
       le-ltb _ _ c.if-place-memory.false,
     )

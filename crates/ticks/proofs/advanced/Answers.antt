@@ -3,10 +3,10 @@ use mathlib.Core.Path.{◌∙◌, sym}
 use Rattle.ticks.proofs.TicksLaws.{advanced_still, advanced_at_once}
 use Rattle.ticks.proofs.advanced.Goals as goal
 
-pub returns-then-running : goal.returns-then-running
-returns-then-running c =
-    let law = advanced_at_once _ _ (sym c.running.ensures ∙ c.if-running.true) in
+pub returns-then-runs : goal.returns-then-runs
+returns-then-runs c =
+    let law = advanced_at_once _ _ (sym c.running-runs.ensures ∙ c.if-runs.true) in
     simp (c.stepped_by-next.ensures, c.ticked_by-next.ensures, c.base_ticks-base_ticks.ensures) (sym law)
 
 pub returns : goal.returns
-returns c = sym (advanced_still _ _ (sym c.running.ensures ∙ c.if-running.false))
+returns c = sym (advanced_still _ _ (sym c.running-runs.ensures ∙ c.if-runs.false))

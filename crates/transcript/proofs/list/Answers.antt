@@ -39,13 +39,13 @@ pub returns-then-out-room : goal.returns-then-out-room
 returns-then-out-room c =
     too_short c.args.input.now c.args.out.now (omega (arith, c.room.ensures))
 
-pub returns-then-input-gt65536 : goal.returns-then-input-gt65536
-returns-then-input-gt65536 c =
+pub returns-then-too_long : goal.returns-then-too_long
+returns-then-too_long c =
     written c.args.input.now long (omega (arith, c.room.ensures))
-    (only-long _ c.if-input-gt65536.true) c.put_bytes.ensures
+    (only-long _ c.if-too_long.true) c.put_bytes.ensures
 
 pub returns : goal.returns
 returns c =
     written c.args.input.now (list_from empty_chip 0 0 0 c.args.input.now)
-    (omega (arith, c.room.ensures)) (not-long _ c.if-input-gt65536.false)
+    (omega (arith, c.room.ensures)) (not-long _ c.if-too_long.false)
     c.put_lines.ensures
