@@ -105,7 +105,8 @@ impl Source {
 fn landed(steps: u16, count: u8, landing: u8) -> u8
     ensures { result ≡ cond (eqb steps 0) count landing }
 {
-    if steps == 0 {
+    let still = steps == 0;
+    if still {
         return count;
     }
     landing

@@ -2,8 +2,8 @@
 use borrow.Author.Tests.{ne_eqb}
 use Rattle.clock.proofs.landed.Goals as goal
 
-pub returns-then-steps-eq0 : goal.returns-then-steps-eq0
-returns-then-steps-eq0 c = simp c.if-steps-eq0.true
+pub returns-then-still : goal.returns-then-still
+returns-then-still c = simp c.if-still.true
 
 pub returns : goal.returns
-returns c = simp (ne_eqb _ _ c.if-steps-eq0.false)
+returns c = simp (ne_eqb _ _ c.if-still.false)
