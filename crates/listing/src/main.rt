@@ -34,7 +34,7 @@ fn out_buffer() -> [u8; 1572880] {
     [0; 1572880]
 }
 
-// Whether the program was started with an argument: one that is no text counts too.
+// Whether the program was started with an argument. One that is no text counts too, and so does a name of the program that is none.
 fn has_argument(rt: &(impl Env + Alloc)) -> bool {
     match env::args(rt) {
         Ok(arguments) => arguments.count() > 1,
