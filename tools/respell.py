@@ -3,6 +3,8 @@
 
 usage: python3 tools/respell.py [TOP]     at the top of a checkout (or of TOP) in which the kit's port.py ran
 
+Once: names that it made are in the table too, so a second run would turn some of them again.
+
 The table, tools/respelled.txt, has a name a line, old and new. A name counts as a whole: in the .antt files, outside the strings of
 the .rt files, in the texts of the must-fail edits, and where a page has it between backticks. In the proof of a function a name with
 dashes counts only where the file imports it, since what Rattle makes has dashes too. A lemma whose name would fall together with that
