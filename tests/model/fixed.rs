@@ -18,21 +18,21 @@ fn bytes(quoted: &str) -> Vec<u8> {
     quoted.replace("\\n", "\n").replace("\\r", "\r").replace("\\t", "\t").into_bytes()
 }
 
-// The bytes of an array that a function makes and `let` names: ticks, which are byte 116, as many as it says.
-fn ticks(source: &str, name: &str) -> Vec<u8> {
-    let maker = between(source, &format!("let {name} = "), "()");
-    let made = between(source, &format!("fn {maker}() -> "), "\n}");
-    vec![116; between(made, "[116; ", "]").parse().expect("a length")]
+// The ticks that `ticks_of` is called for, as many as it is told and each the byte that it fills its array with.
+fn ticks(source: &str, array: &str) -> Vec<u8> {
+    let made = between(source, "fn ticks_of<const N: usize>()", "\n}");
+    let tick = between(made, "[b'", "'; N]").bytes().next().expect("a byte");
+    vec![tick; between(array, "&ticks_of::<", ">()").parse().expect("a length")]
 }
 
 /// The calls of `listed_as` in the source of listing_cases.
 pub fn listed(source: &str) -> Vec<Listed> {
     let call = |call: &str| {
-        let words = between(call, "", ")").to_string();
+        let words = format!("{}\"", between(call, "", "\")"));
         let parts: Vec<&str> = words.split('"').collect();
         let (input, due) = match parts[..] {
             ["b", input, _, due, _] => (bytes(input), due),
-            [array, due, _] => (ticks(source, between(array, "&", ",")), due),
+            [array, due, _] => (ticks(source, array), due),
             _ => panic!("listing_cases: listed_as({words}) is not understood"),
         };
         Listed { name: format!("listed_as({words})"), input, due: bytes(due) }

@@ -42,12 +42,12 @@ fn numbered(number: u8, first: u8, second: u8) -> Numbers
     }
 }
 
-impl Answer {
+impl From<Answer> for Numbers {
+    ghost from_gives = { λ answer result. result ≡ numbers answer };
+
     // The answer's number, a refusal's its own, and its details: the address or the code, and the nibble or the bit, or 0.
-    pub fn numbers(self) -> Numbers
-        ensures { result ≡ numbers self }
-    {
-        match self {
+    fn from(answer: Answer) -> Numbers {
+        match answer {
             Answer::Nothing => numbered(0, 0, 0),
             Answer::Opened => numbered(1, 0, 0),
             Answer::Closed => numbered(2, 0, 0),
@@ -60,7 +60,7 @@ impl Answer {
             Answer::Stray => numbered(9, 0, 0),
             Answer::Unknown => numbered(10, 0, 0),
             Answer::Clash => numbered(11, 0, 0),
-            Answer::Refused(refusal) => numbered(refusal.number(), 0, 0),
+            Answer::Refused(refusal) => numbered(u8::from(refusal), 0, 0),
         }
     }
 }

@@ -1,12 +1,12 @@
 -- Every sample, every tick and every advance keeps a valid chip valid; a refused sample changes nothing. Assumes nothing.
+use Rattle.std.specs.Prelude.{Option, Some, None}
+use Rattle.commands.specs.declared.Command.{Command}
 use mathlib.Core.Path.{◌≡◌}
 use Prim.Native.Nat.{ℕ, ◌*◌, ◌<◌}
 use lib.Dec.{ltb}
 use borrow.Author.Tests.{lt-ltb}
 use Rattle.ground.proofs.ChoiceLaws.{either}
 use Rattle.ground.specs.declared.Refusal.TheVariants.{SampleAbove}
-use Rattle.commands.specs.declared.Decoded.{Decoded}
-use Rattle.commands.specs.declared.Decoded.TheVariants.{Undefined, Means}
 use Rattle.commands.specs.Commands.{ProperMeaning, code_meaning}
 use Rattle.commands.proofs.CommandsLaws.{code_proper}
 use Rattle.settings.specs.declared.Settings.{Settings}
@@ -25,10 +25,10 @@ use Rattle.chip.specs.declared.Stepped.{Stepped}
 use Rattle.chip.specs.Chip.{obeyed_as, settings_after, stepped_to, stepped, ticked, advanced}
 use Rattle.chip.specs.Valid.{Valid}
 
-obeyed_as_valid : (decoded : Decoded) → ProperMeaning decoded → (s : Settings) → SettingsValid s → SettingsValid (obeyed_as decoded s)
+obeyed_as_valid : (decoded : Option Command) → ProperMeaning decoded → (s : Settings) → SettingsValid s → SettingsValid (obeyed_as decoded s)
 unfolding obeyed_as
-obeyed_as_valid Undefined p s v = v
-obeyed_as_valid (Means command) p s v = rules.effect_valid command p s v
+obeyed_as_valid None p s v = v
+obeyed_as_valid (Some command) p s v = rules.effect_valid command p s v
 
 pub settings_after_valid : (upshot : Upshot) (s : Settings) → SettingsValid s → SettingsValid (settings_after upshot s)
 unfolding settings_after

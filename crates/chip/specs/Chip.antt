@@ -1,10 +1,9 @@
 -- RULES "Samples", "What a sample is answered" and "Ticks", of the whole chip: what a sample and a tick make of it.
 -- Assumes nothing.
-use Rattle.std.specs.Prelude.{ℕ, ◌*◌, cond, ltb}
+use Rattle.commands.specs.declared.Command.{Command}
+use Rattle.std.specs.Prelude.{ℕ, ◌*◌, cond, ltb, Option, Some, None}
 use Rattle.ground.specs.declared.Part.{Part}
 use Rattle.ground.specs.declared.Refusal.TheVariants.{SampleAbove}
-use Rattle.commands.specs.declared.Decoded.{Decoded}
-use Rattle.commands.specs.declared.Decoded.TheVariants.{Undefined, Means}
 use Rattle.commands.specs.Commands.{code_meaning}
 use Rattle.settings.specs.declared.Settings.{Settings}
 use Rattle.rules.specs.Effects.{effect}
@@ -22,13 +21,13 @@ use Rattle.chip.specs.declared.Chip.{Chip}
 use Rattle.chip.specs.declared.Stepped.{Stepped}
 
 -- A code that is complete: an undefined one is passed over; a command is obeyed, by its effect on the settings.
-abbrev pub decoded_answer : Decoded → ℕ → Answer
-decoded_answer Undefined code = Passed code
-decoded_answer (Means command) code = Obeyed code
+abbrev pub decoded_answer : Option Command → ℕ → Answer
+decoded_answer None code = Passed code
+decoded_answer (Some command) code = Obeyed code
 
-unfoldable pub obeyed_as : Decoded → Settings → Settings
-obeyed_as Undefined settings = settings
-obeyed_as (Means command) settings = effect command settings
+unfoldable pub obeyed_as : Option Command → Settings → Settings
+obeyed_as None settings = settings
+obeyed_as (Some command) settings = effect command settings
 
 -- What a sample is answered, by what it came to in its frame. A nibble is answered with its address also from 32 on, where the memory
 -- has none for it; a code goes by the part.

@@ -6,7 +6,6 @@ ghost use Rattle.std.specs.Prelude.{◌≡◌};
 ghost use Rattle.chip.specs.Chip.{commanded, stepped_to, stepped, ticked, advanced};
 
 use answers::Answer;
-use commands::Decoded;
 use frames::Upshot;
 use ground::Refusal;
 use lines::Levels;
@@ -27,16 +26,16 @@ pub struct Stepped {
 }
 
 // A code that is complete: an undefined one is passed over, a command obeyed.
+#[tactic(auto, unfolding(crate::specs::Chip::obeyed_as, crate::specs::Chip::settings_after))]
 fn commanded(port: Port, settings: Settings, code: u8) -> Stepped
     ensures { result ≡ commanded port settings code }
 {
-    let part = settings.part;
-    match commands::meaning(part, 2 * (code as u16)) {
-        Decoded::Undefined => Stepped {
+    match commands::meaning(settings.part, 2 * (code as u16)) {
+        None => Stepped {
             chip: Chip { port, settings },
             answer: Answer::Passed(code),
         },
-        Decoded::Means(command) => Stepped {
+        Some(command) => Stepped {
             chip: Chip {
                 port,
                 settings: rules::obeyed(settings, command),
@@ -48,34 +47,27 @@ fn commanded(port: Port, settings: Settings, code: u8) -> Stepped
 
 impl Chip {
     // The chip after a sample of these levels.
+    #[tactic(auto, unfolding(crate::specs::Chip::stepped_to, crate::specs::Chip::settings_after))]
     pub fn step_to(self, levels: Levels) -> Stepped
         ensures { result ≡ stepped_to self levels }
     {
-        let port = self.port;
-        let settings = self.settings;
-        let moved = port.moved(levels);
-        let upshot = moved.upshot;
-        let next = moved.port;
-        match upshot {
-            Upshot::Answered(answer) => Stepped {
-                chip: Chip {
-                    port: next,
-                    settings,
-                },
-                answer,
-            },
+        let moved = self.port.moved(levels);
+        let chip = Chip {
+            port: moved.port,
+            ..self
+        };
+        match moved.upshot {
+            Upshot::Answered(answer) => Stepped { chip, answer },
             Upshot::Nibble(at, nibble) => Stepped {
-                chip: Chip {
-                    port: next,
-                    settings,
-                },
+                chip,
                 answer: Answer::Stored(at, nibble),
             },
-            Upshot::Code(code) => commanded(next, settings, code),
+            Upshot::Code(code) => commanded(moved.port, self.settings, code),
         }
     }
 
     // The chip after a sample. One above 15 is refused and changes nothing.
+    #[tactic(auto, unfolding(crate::specs::Chip::stepped))]
     pub fn step(self, sample: u8) -> Stepped
         ensures { result ≡ stepped self sample }
     {
@@ -85,26 +77,26 @@ impl Chip {
                 answer: Answer::Refused(Refusal::SampleAbove),
             };
         }
-        self.step_to(lines::levels_of(sample))
+        self.step_to(Levels::from(sample))
     }
 
     // The chip after one tick of the system clock.
     pub fn tick(self) -> Chip
         ensures { result ≡ ticked self }
     {
-        let settings = self.settings;
-        let mut next = self;
-        next.settings = ticks::ticked(settings);
-        next
+        Chip {
+            settings: ticks::ticked(self.settings),
+            ..self
+        }
     }
 
     // The chip after `ticks` single ticks.
     pub fn advance(self, ticks: u16) -> Chip
         ensures { result ≡ advanced ticks self }
     {
-        let settings = self.settings;
-        let mut next = self;
-        next.settings = ticks::advanced(settings, ticks);
-        next
+        Chip {
+            settings: ticks::advanced(self.settings, ticks),
+            ..self
+        }
     }
 }

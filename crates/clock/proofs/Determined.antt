@@ -2,8 +2,8 @@
 -- Assumes nothing.
 use mathlib.Core.Path.{◌∙◌, sym}
 use Rattle.ground.specs.Determined.{Determined}
-use Rattle.clock.proofs.Source.number.Kinds as source_number_kinds
-use Rattle.clock.proofs.Source.number.Reads as source_number_reads
+use Rattle.clock.proofs.U8FromSource.from.Kinds as source_number_kinds
+use Rattle.clock.proofs.U8FromSource.from.Reads as source_number_reads
 use Rattle.clock.proofs.Timer.cleared.Kinds as cleared_kinds
 use Rattle.clock.proofs.Timer.cleared.Reads as cleared_reads
 use Rattle.clock.proofs.Timer.watchdog_cleared.Kinds as watchdog_cleared_kinds

@@ -2,13 +2,13 @@
 -- is a difference of two quotients. Assumes nothing.
 use mathlib.Core.Path.{◌≡◌, ◌∙◌, refl, sym, ap}
 use mathlib.Core.Bool.{Bool, true, false, cond}
-use Prim.Native.Nat.{ℕ, zero, suc, ◌+◌, ◌-◌, ◌*◌, ◌/◌, ◌%◌, ◌∣◌, ◌≤◌, ◌<◌}
+use Prim.Native.Nat.{ℕ, zero, suc, ◌+◌, ◌-◌, ◌*◌, ◌/◌, ◌%◌, ◌∣◌, ◌<◌}
 use native.Mathlib.Nat.{add-zero, sub_self, mod-mod_of_dvd, mod-lt, mod-mod, mod-add-mod, div-add-mod', mul-add-div_right, div-eq_of_lt}
 use native.Mathlib.Omega.{arith}
 use borrow.Author.Tests.{eqb-true, eqb-false}
 use lib.Dec.{eqb, eqb-suc-zero}
 use Rattle.clock.specs.Walks.{walked, met, next, rounds}
-use Rattle.clock.proofs.WalkLaws.{walked_of, met_of, met_le}
+use Rattle.clock.proofs.WalkLaws.{met_of}
 
 -- What the code works out: where k steps from x lead, no step leaving x where it is, also out of range; and the rounds.
 abbrev pub landing : ℕ → ℕ → ℕ → ℕ
@@ -39,10 +39,6 @@ module _ (m : ℕ) (pos : 0 < m) where
   unfolding walked
   walked_landing zero x = refl
   walked_landing (suc k) x = walked_landing k (next m x) ∙ sym (landing_suc k x)
-
-  -- the same of what is a counter and nothing else
-  pub counter_landing : {A : Type 0} (f : ℕ → A) (step : A → A) → ((x : ℕ) → step (f x) ≡ f (next m x)) → (k x : ℕ) → walked step k (f x) ≡ f (landing m k x)
-  counter_landing f step alike k x = walked_of f (next m) step alike k x ∙ ap f (walked_landing k x)
 
   -- what is left of x is enough to count the rounds
   rest_counts : (k x : ℕ) → quotients m k x ≡ (x % m + k) / m
@@ -82,10 +78,6 @@ module _ (m : ℕ) (pos : 0 < m) where
   rounds_quotients zero x = sym (rw add-zero (sub_self (x / m)))
   rounds_quotients (suc k) x =
       ap (λ (c : ℕ). cond (eqb (next m x) 0) (suc c) c) (rounds_quotients k (next m x)) ∙ sym (quotients_suc k x)
-
-  -- there are no more rounds than steps
-  pub quotients_le : (k x : ℕ) → quotients m k x ≤ k
-  quotients_le k x = rw (sym (rounds_quotients k x)) (met_le (λ (y : ℕ). eqb y 0) (next m) k x)
 
   -- a counter whose size n is a multiple of m meets the multiples of m where one of size m comes back to 0
   pub multiples_quotients : (n : ℕ) → m ∣ n → (k x : ℕ) → met (λ (y : ℕ). eqb (y % m) 0) (next n) k x ≡ quotients m k x

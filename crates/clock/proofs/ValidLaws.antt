@@ -13,7 +13,7 @@ use Rattle.commands.specs.Numbers.{commons_number}
 use Rattle.clock.specs.declared.Watchdog.{Watchdog}
 use Rattle.clock.specs.declared.Source.{Source}
 use Rattle.clock.specs.declared.Source.TheVariants.{Xtal, Rc, Ext}
-use Rattle.clock.specs.declared.Prescaler.{Prescaler}
+use Rattle.clock.specs.Counters.{Prescaler}
 use Rattle.clock.specs.declared.Timer.{Timer}
 use Rattle.clock.specs.declared.Scan.{Scan}
 use Rattle.clock.specs.declared.Counters.{Counters}

@@ -1,3 +1,4 @@
+pub mod Counters
 pub mod Numbers
 pub mod Sizes
 pub mod Ticks

@@ -7,10 +7,7 @@ use Rattle.commands.specs.Numbers.{commons_number}
 use Rattle.clock.specs.Sizes.{prescaler_size, toner_size, divider_size, base_size, watchdog_size, scan_size}
 use Rattle.clock.specs.declared.Source.{Source}
 use Rattle.clock.specs.declared.Source.TheVariants.{Xtal, Rc, Ext}
-use Rattle.clock.specs.declared.Prescaler.{Prescaler}
-use Rattle.clock.specs.declared.Toner.{Toner}
-use Rattle.clock.specs.declared.Divider.{Divider}
-use Rattle.clock.specs.declared.BaseCounter.{BaseCounter}
+use Rattle.clock.specs.Counters.{Prescaler, Toner, Divider, BaseCounter}
 use Rattle.clock.specs.declared.Watchdog.{Watchdog}
 use Rattle.clock.specs.declared.Timer.{Timer}
 use Rattle.clock.specs.declared.Scan.{Scan}

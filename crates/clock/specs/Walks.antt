@@ -1,8 +1,7 @@
 -- RULES "Ticks", n of them: single steps, one after the other, and how many of them lead where the next counter steps. Assumes nothing.
 use Rattle.std.specs.Prelude.{ℕ, zero, suc, ◌+◌, ◌%◌, Bool, cond, eqb}
 use Rattle.clock.specs.declared.Source.{Source}
-use Rattle.clock.specs.declared.Prescaler.{Prescaler}
-use Rattle.clock.specs.declared.Divider.{Divider}
+use Rattle.clock.specs.Counters.{Prescaler, Divider}
 use Rattle.clock.specs.Ticks.{divider_stepped, due, prescaled, is_base_tick}
 
 -- n single steps.

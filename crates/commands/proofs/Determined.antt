@@ -2,10 +2,10 @@
 -- Assumes nothing.
 use mathlib.Core.Path.{◌∙◌, sym}
 use Rattle.ground.specs.Determined.{Determined}
-use Rattle.commands.proofs.Bias.number.Kinds as bias_number_kinds
-use Rattle.commands.proofs.Bias.number.Reads as bias_number_reads
-use Rattle.commands.proofs.Commons.number.Kinds as commons_number_kinds
-use Rattle.commands.proofs.Commons.number.Reads as commons_number_reads
+use Rattle.commands.proofs.U8FromBias.from.Kinds as bias_number_kinds
+use Rattle.commands.proofs.U8FromBias.from.Reads as bias_number_reads
+use Rattle.commands.proofs.U8FromCommons.from.Kinds as commons_number_kinds
+use Rattle.commands.proofs.U8FromCommons.from.Reads as commons_number_reads
 use Rattle.commands.proofs.meaning.Kinds as meaning_kinds
 use Rattle.commands.proofs.meaning.Reads as meaning_reads
 use Rattle.commands.proofs.first_undefined.Kinds as first_undefined_kinds

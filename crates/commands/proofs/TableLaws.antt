@@ -1,31 +1,34 @@
 -- The table of the 512 codes follows the pattern rule in both parts, and the numbers in it can be read back: tests, which antt
 -- computes over every code, and one law that carries a test to the code at hand. Assumes nothing.
+use Rattle.std.specs.Prelude.{Option, Some, None}
 use mathlib.Core.Path.{◌≡◌, ◌∙◌, refl, sym, ap}
-use mathlib.Core.Bool.{true, false, cond}
+use mathlib.Core.Bool.{Bool, true, false, cond}
 use mathlib.Core.List.{List, [], ◌∷◌}
-use Prim.Native.Nat.{ℕ, ◌*◌, ◌%◌, ◌<◌}
+use Prim.Native.Nat.{ℕ, ◌%◌, ◌≤◌, ◌<◌}
 use native.Mathlib.Decide.{dec_lt}
 use native.Mathlib.Omega.{arith}
 use lib.Dec.{eqb, ltb}
 use lib.ListN.{get_or}
-use borrow.Author.Tests.{lt-ltb, ltb-true, ne_eqb}
+use borrow.Author.Tests.{lt-ltb, le-ltb, ltb-true, ne_eqb, eqb-true}
 use Rattle.ground.specs.declared.Part.{Part}
 use Rattle.ground.specs.declared.Part.TheVariants.{Ht, Gn}
 use Rattle.commands.specs.declared.Bias.TheVariants.{Half, Third}
 use Rattle.commands.specs.declared.Commons.TheVariants.{Two, Three, Four}
 use Rattle.commands.specs.declared.Command.{Command}
 use Rattle.commands.specs.declared.Command.TheVariants.{SysDis, SysEn, LcdOff, LcdOn, TimerDis, WdtDis, TimerEn, WdtEn, ToneOff, ToneOn, ClrTimer, ClrWdt, Xtal32k, Rc256k, Ext256k, BiasCom, Tone4k, Tone2k, IrqDis, IrqEn, Rate, Test, Normal}
-use Rattle.commands.specs.declared.Decoded.{Decoded}
-use Rattle.commands.specs.declared.Decoded.TheVariants.{Undefined, Means}
-use Rattle.commands.specs.Commands.{within, byte_meaning, code_meaning, undefined, command_fault}
+use Rattle.commands.specs.Commands.{byte_meaning, code_meaning, undefined}
 use Rattle.commands.specs.Numbers.{decoded_number, swapped, entry_of}
 use Rattle.ground.specs.Values.{values, values_at, agree}
 
--- the arms of the decoder for a single number, the last one first
-abbrev pub rows : List (ℕ × Command)
-rows =
+-- the arms of the decoder for a single number, the last one first: those above the rates, and those below them
+abbrev high_rows : List (ℕ × Command)
+high_rows =
     (0xE3, Normal) ∷
     (0xE0, Test) ∷
+    []
+
+abbrev low_rows : List (ℕ × Command)
+low_rows =
     (0x88, IrqEn) ∷
     (0x80, IrqDis) ∷
     (0x60, Tone2k) ∷
@@ -53,22 +56,18 @@ rows =
     (0x00, SysDis) ∷
     []
 
-abbrev pub lookup : ℕ → List (ℕ × Command) → Decoded
-lookup n [] = Undefined
-lookup n (row ∷ rest) = cond (eqb n row.0) (Means row.1) (lookup n rest)
+abbrev lookup : ℕ → List (ℕ × Command) → Option Command
+lookup n [] = None
+lookup n (row ∷ rest) = cond (eqb n row.0) (Some row.1) (lookup n rest)
 
 -- what a number stands for
-abbrev pub named : ℕ → Decoded
-named n = cond (within 0xA0 0xA7 n) (Means (Rate (n % 8))) (lookup n rows)
+abbrev pub named : ℕ → Option Command
+named n = cond (ltb n 0xA0) (lookup n low_rows) (cond (ltb n 0xA8) (Some (Rate (n % 8))) (lookup n high_rows))
 
--- n is the number of no row
-abbrev pub Misses : ℕ → List (ℕ × Command) → Type 0
-Misses n [] = Unit {0}
-Misses n (row ∷ rest) = Misses n rest × (n ≡ row.0 → ⊥)
-
-pub lookup_misses : (n : ℕ) (rest : List (ℕ × Command)) → Misses n rest → lookup n rest ≡ Undefined
-lookup_misses n [] m = refl
-lookup_misses n (row ∷ rest) m = simp (ne_eqb _ _ m.1, lookup_misses n rest m.0)
+-- above the rates only two numbers stand for a command
+pub past_rates : (n : ℕ) → 0xA8 ≤ n → (n ≡ 0xE0 → ⊥) → (n ≡ 0xE3 → ⊥) → named n ≡ None
+past_rates n past test normal =
+    simp (le-ltb n 0xA0 (omega arith), le-ltb n 0xA8 past, ne_eqb n 0xE0 test, ne_eqb n 0xE3 normal)
 
 -- the number that the rule gives a code of a part
 abbrev pub ruled : Part → ℕ → ℕ
@@ -108,13 +107,13 @@ table_follows table same part code h =
     ap (λ (l : List ℕ). get_or l (entry_of part code) 0) same
     ∙ values_at (ruled Ht) 512 (entry_of part code) 0 (entry_there part code h) ∙ sym (ap decoded_number (same_as_ht part code h))
 
-pub past_undefined : (part : Part) (code : ℕ) → 511 < code → code_meaning part code ≡ Undefined
+pub past_undefined : (part : Part) (code : ℕ) → 511 < code → code_meaning part code ≡ None
 unfolding code_meaning
 past_undefined part code h = simp (lt-ltb _ _ h)
 
 either : (part : Part) (code : ℕ) → Dec (code < 512) → named (ruled part code) ≡ code_meaning part code
 either part code (yes h) =
-    ap (λ (d : Decoded). named (decoded_number d)) (same_as_ht part code h)
+    ap (λ (d : Option Command). named (decoded_number d)) (same_as_ht part code h)
     ∙ agree (λ k. named (ruled Ht k)) (code_meaning Ht) 512 told (entry_of part code) (entry_there part code h)
     ∙ sym (same_as_ht part code h)
 either part code (no h) = simp (past_undefined part code (omega arith))
@@ -123,22 +122,12 @@ either part code (no h) = simp (past_undefined part code (omega arith))
 pub named_ruled : (part : Part) (code n : ℕ) → n ≡ ruled part code → named n ≡ code_meaning part code
 named_ruled part code n e = ap named e ∙ either part code (dec_lt code 512)
 
--- ---- the numbers of commands asked for by a byte
-
--- what has another number than 255 is a command
-defined : (d : Decoded) → (decoded_number d ≡ 0xFF → ⊥) → undefined d ≡ false
-defined Undefined not = absurd (not refl)
-defined (Means command) not = refl
-
-module _ (table : List ℕ) (part : Part) (code : ℕ) (same : table ≡ values (ruled Ht) 0 512) (h : code < 256) where
-  entry : get_or table (entry_of part (2 * code)) 0 ≡ ruled part (2 * code)
-  entry = table_follows table same part (2 * code) (omega arith)
-
-  -- a command is at fault where its entry is 255, and only there
-  pub at_fault : get_or table (entry_of part (2 * code)) 0 ≡ 0xFF → command_fault part code ≡ true
-  unfolding command_fault
-  at_fault e = ap undefined (sym (named_ruled part (2 * code) 0xFF (sym e ∙ entry)))
-
-  pub not_at_fault : (get_or table (entry_of part (2 * code)) 0 ≡ 0xFF → ⊥) → command_fault part code ≡ false
-  unfolding command_fault
-  not_at_fault not = defined (code_meaning part (2 * code)) (λ e. not (entry ∙ e))
+-- what a number tells has the number 255 exactly if it is no command
+pub told_fault : (decoded : Option Command) → named (decoded_number decoded) ≡ decoded → eqb (decoded_number decoded) 0xFF ≡ undefined decoded
+told_fault None e = refl
+told_fault (Some command) e = by (eqb (decoded_number (Some command)) 0xFF) refl
+  where
+    by : (t : Bool) → eqb (decoded_number (Some command)) 0xFF ≡ t → t ≡ false
+    by true h = let same : decoded_number (Some command) ≡ 0xFF = eqb-true _ _ h in
+        let none : None ≡ Some command = sym (ap named same) ∙ e in cc
+    by false h = refl

@@ -1,5 +1,5 @@
 -- RULES "Commands": what each nine-bit code means, in each part. Assumes nothing.
-use Rattle.std.specs.Prelude.{ℕ, zero, suc, ◌+◌, ◌*◌, ◌/◌, ◌%◌, ◌<◌, Bool, true, false, cond, ◌&&◌, ◌||◌, eqb, leb, ltb}
+use Rattle.std.specs.Prelude.{ℕ, zero, suc, ◌+◌, ◌*◌, ◌/◌, ◌%◌, ◌<◌, Bool, true, false, cond, ◌&&◌, ◌||◌, eqb, leb, ltb, Option, Some, None}
 use Rattle.ground.specs.declared.Part.{Part}
 use Rattle.ground.specs.declared.Part.TheVariants.{Ht, Gn}
 use Rattle.commands.specs.declared.Bias.{Bias}
@@ -8,8 +8,6 @@ use Rattle.commands.specs.declared.Commons.{Commons}
 use Rattle.commands.specs.declared.Commons.TheVariants.{Two, Three, Four}
 use Rattle.commands.specs.declared.Command.{Command}
 use Rattle.commands.specs.declared.Command.TheVariants.{SysDis, SysEn, LcdOff, LcdOn, TimerDis, WdtDis, TimerEn, WdtEn, ToneOff, ToneOn, ClrTimer, ClrWdt, Xtal32k, Rc256k, Ext256k, BiasCom, Tone4k, Tone2k, IrqDis, IrqEn, Rate, Test, Normal}
-use Rattle.commands.specs.declared.Decoded.{Decoded}
-use Rattle.commands.specs.declared.Decoded.TheVariants.{Undefined, Means}
 
 -- A row of the table covers the upper bytes from `low` to `high`.
 abbrev pub within : ℕ → ℕ → ℕ → Bool
@@ -29,36 +27,36 @@ clr_timer Ht = 0x0C
 clr_timer Gn = 0x0A
 
 -- The pattern rule: the meaning that the upper eight bits of a code decide, row by row as RULES lists them.
-unfoldable pub byte_meaning : Part → ℕ → Decoded
+unfoldable pub byte_meaning : Part → ℕ → Option Command
 byte_meaning part byte =
-    cond (eqb byte 0x00) (Means SysDis)
-    (cond (eqb byte 0x01) (Means SysEn)
-    (cond (eqb byte 0x02) (Means LcdOff)
-    (cond (eqb byte 0x03) (Means LcdOn)
-    (cond (eqb byte 0x04) (Means TimerDis)
-    (cond (eqb byte 0x05) (Means WdtDis)
-    (cond (eqb byte 0x06) (Means TimerEn)
-    (cond (eqb byte 0x07) (Means WdtEn)
-    (cond (eqb byte 0x08) (Means ToneOff)
-    (cond (eqb byte 0x09) (Means ToneOn)
-    (cond (within (clr_timer part) (clr_timer part + 1) byte) (Means ClrTimer)
-    (cond (within 0x0E 0x0F byte) (Means ClrWdt)
-    (cond (within 0x14 0x17 byte) (Means Xtal32k)
-    (cond (within 0x18 0x1B byte) (Means Rc256k)
-    (cond (within 0x1C 0x1F byte) (Means Ext256k)
-    (cond (within 0x20 0x2B byte) (Means (BiasCom (bias_by (byte % 2)) (commons_by (byte / 4 % 4))))
-    (cond (within 0x40 0x5F byte) (Means Tone4k)
-    (cond (within 0x60 0x7F byte) (Means Tone2k)
-    (cond (within 0x80 0x87 byte || within 0x90 0x97 byte) (Means IrqDis)
-    (cond (within 0x88 0x8F byte || within 0x98 0x9F byte) (Means IrqEn)
-    (cond (within 0xA0 0xBF byte) (Means (Rate (byte % 8)))
-    (cond (eqb byte 0xE0) (Means Test)
-    (cond (eqb byte 0xE3) (Means Normal)
-    Undefined))))))))))))))))))))))
+    cond (eqb byte 0x00) (Some SysDis)
+    (cond (eqb byte 0x01) (Some SysEn)
+    (cond (eqb byte 0x02) (Some LcdOff)
+    (cond (eqb byte 0x03) (Some LcdOn)
+    (cond (eqb byte 0x04) (Some TimerDis)
+    (cond (eqb byte 0x05) (Some WdtDis)
+    (cond (eqb byte 0x06) (Some TimerEn)
+    (cond (eqb byte 0x07) (Some WdtEn)
+    (cond (eqb byte 0x08) (Some ToneOff)
+    (cond (eqb byte 0x09) (Some ToneOn)
+    (cond (within (clr_timer part) (clr_timer part + 1) byte) (Some ClrTimer)
+    (cond (within 0x0E 0x0F byte) (Some ClrWdt)
+    (cond (within 0x14 0x17 byte) (Some Xtal32k)
+    (cond (within 0x18 0x1B byte) (Some Rc256k)
+    (cond (within 0x1C 0x1F byte) (Some Ext256k)
+    (cond (within 0x20 0x2B byte) (Some (BiasCom (bias_by (byte % 2)) (commons_by (byte / 4 % 4))))
+    (cond (within 0x40 0x5F byte) (Some Tone4k)
+    (cond (within 0x60 0x7F byte) (Some Tone2k)
+    (cond (within 0x80 0x87 byte || within 0x90 0x97 byte) (Some IrqDis)
+    (cond (within 0x88 0x8F byte || within 0x98 0x9F byte) (Some IrqEn)
+    (cond (within 0xA0 0xBF byte) (Some (Rate (byte % 8)))
+    (cond (eqb byte 0xE0) (Some Test)
+    (cond (eqb byte 0xE3) (Some Normal)
+    None))))))))))))))))))))))
 
 -- A nine-bit code means what its upper eight bits decide; a number above 511 is no code and means nothing.
-unfoldable pub code_meaning : Part → ℕ → Decoded
-code_meaning part code = cond (ltb 511 code) Undefined (byte_meaning part (code / 2))
+unfoldable pub code_meaning : Part → ℕ → Option Command
+code_meaning part code = cond (ltb 511 code) None (byte_meaning part (code / 2))
 
 -- How many numbers below n pass a test.
 abbrev pub below : ℕ → (ℕ → Bool) → ℕ
@@ -66,9 +64,9 @@ below zero test = 0
 below (suc n) test = cond (test n) 1 0 + below n test
 
 -- Whether a meaning is none.
-abbrev pub undefined : Decoded → Bool
-undefined Undefined = true
-undefined (Means command) = false
+abbrev pub undefined : Option Command → Bool
+undefined None = true
+undefined (Some command) = false
 
 -- A command is asked for by the byte of its upper eight bits, and the ninth is 0.
 unfoldable pub command_fault : Part → ℕ → Bool
@@ -100,6 +98,6 @@ Proper (Rate r) = r < 8
 Proper Test = Unit {0}
 Proper Normal = Unit {0}
 
-abbrev pub ProperMeaning : Decoded → Type 0
-ProperMeaning Undefined = Unit {0}
-ProperMeaning (Means command) = Proper command
+abbrev pub ProperMeaning : Option Command → Type 0
+ProperMeaning None = Unit {0}
+ProperMeaning (Some command) = Proper command

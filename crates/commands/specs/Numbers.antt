@@ -1,6 +1,6 @@
 -- The numbers that RULES gives the cases of each enum: bytes of "State record and simulator", codes of "Commands".
 -- Assumes nothing.
-use Rattle.std.specs.Prelude.{ℕ, ◌+◌, ◌-◌, cond, ltb}
+use Rattle.std.specs.Prelude.{ℕ, ◌+◌, ◌-◌, cond, ltb, Option, Some, None}
 use Rattle.ground.specs.declared.Part.{Part}
 use Rattle.ground.specs.declared.Part.TheVariants.{Ht, Gn}
 use Rattle.commands.specs.declared.Bias.{Bias}
@@ -9,8 +9,6 @@ use Rattle.commands.specs.declared.Commons.{Commons}
 use Rattle.commands.specs.declared.Commons.TheVariants.{Two, Three, Four}
 use Rattle.commands.specs.declared.Command.{Command}
 use Rattle.commands.specs.declared.Command.TheVariants.{SysDis, SysEn, LcdOff, LcdOn, TimerDis, WdtDis, TimerEn, WdtEn, ToneOff, ToneOn, ClrTimer, ClrWdt, Xtal32k, Rc256k, Ext256k, BiasCom, Tone4k, Tone2k, IrqDis, IrqEn, Rate, Test, Normal}
-use Rattle.commands.specs.declared.Decoded.{Decoded}
-use Rattle.commands.specs.declared.Decoded.TheVariants.{Undefined, Means}
 
 abbrev pub bias_number : Bias → ℕ
 bias_number Half = 2
@@ -53,9 +51,9 @@ command_number Test = 0xE0
 command_number Normal = 0xE3
 
 -- The number of what a code means, which is its entry in the table; 255 is no command's.
-abbrev pub decoded_number : Decoded → ℕ
-decoded_number Undefined = 0xFF
-decoded_number (Means command) = command_number command
+abbrev pub decoded_number : Option Command → ℕ
+decoded_number None = 0xFF
+decoded_number (Some command) = command_number command
 
 -- The codes of 0A and 0B, nine bits each, change places with those of 0C and 0D.
 unfoldable pub swapped : ℕ → ℕ

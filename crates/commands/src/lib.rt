@@ -1,8 +1,7 @@
 // What a command code means, in each part.
 #![tactic(auto)]
 
-ghost use Rattle.std.specs.Prelude.{◌≡◌};
-ghost use Rattle.ground.specs.Places.{lowest};
+ghost use Rattle.std.specs.Prelude.{◌≡◌, position};
 ghost use Rattle.commands.specs.Commands.{code_meaning, command_fault};
 ghost use Rattle.commands.specs.Numbers.{bias_number, commons_number, decoded_number, swapped, entry_of};
 
@@ -25,24 +24,24 @@ pub enum Commons {
     Four,
 }
 
-impl Bias {
+impl From<Bias> for u8 {
+    ghost from_gives = { λ bias number. number ≡ bias_number bias };
+
     // Its number in the state record: 2 for 1/2, 3 for 1/3.
-    pub fn number(self) -> u8
-        ensures { result ≡ bias_number self }
-    {
-        match self {
+    fn from(bias: Bias) -> u8 {
+        match bias {
             Bias::Half => 2,
             Bias::Third => 3,
         }
     }
 }
 
-impl Commons {
+impl From<Commons> for u8 {
+    ghost from_gives = { λ commons number. number ≡ commons_number commons };
+
     // How many commons they are.
-    pub fn number(self) -> u8
-        ensures { result ≡ commons_number self }
-    {
-        match self {
+    fn from(commons: Commons) -> u8 {
+        match commons {
             Commons::Two => 2,
             Commons::Three => 3,
             Commons::Four => 4,
@@ -78,14 +77,8 @@ pub enum Command {
     Normal,
 }
 
-// What a code means: nothing, or a command.
-#[derive(Clone, Copy)]
-pub enum Decoded {
-    Undefined,
-    Means(Command),
-}
-
 // The codes of 0A and 0B in the places of 0C and 0D, and the other way round.
+#[tactic(auto, unfolding(crate::specs::Numbers::swapped))]
 fn swapped(code: usize) -> usize
     ensures { result ≡ swapped code }
 {
@@ -103,6 +96,7 @@ fn swapped(code: usize) -> usize
 }
 
 // Where the table has a code of a part.
+#[tactic(auto, unfolding(crate::specs::Numbers::entry_of))]
 fn entry_of(part: Part, code: usize) -> usize
     ensures { result ≡ entry_of part code }
 {
@@ -112,7 +106,9 @@ fn entry_of(part: Part, code: usize) -> usize
     }
 }
 
+// The table has numbers and no commands: the rules ask for one constant of 512 small numbers, so that it is read beside theirs.
 // The number that the table has for a code: that of no command where it is above 511.
+#[tactic(auto, using(crate::proofs::TableLaws::past_undefined, crate::proofs::TableLaws::entry_there))]
 fn number_of(part: Part, code: u16) -> u8
     ensures { result ≡ decoded_number (code_meaning part code) }
 {
@@ -123,56 +119,55 @@ fn number_of(part: Part, code: u16) -> u8
     table::NUMBERS[at]
 }
 
-// The meaning of a nine-bit code in a part. A number above 511 is no code, and undefined.
-pub fn meaning(part: Part, code: u16) -> Decoded
+// The command that a nine-bit code means in a part, if it means one. A number above 511 is no code.
+#[tactic(auto, using(crate::proofs::TableLaws::named_ruled))]
+pub fn meaning(part: Part, code: u16) -> Option<Command>
     ensures { result ≡ code_meaning part code }
 {
     let number = number_of(part, code);
     match number {
-        0x00 => Decoded::Means(Command::SysDis),
-        0x01 => Decoded::Means(Command::SysEn),
-        0x02 => Decoded::Means(Command::LcdOff),
-        0x03 => Decoded::Means(Command::LcdOn),
-        0x04 => Decoded::Means(Command::TimerDis),
-        0x05 => Decoded::Means(Command::WdtDis),
-        0x06 => Decoded::Means(Command::TimerEn),
-        0x07 => Decoded::Means(Command::WdtEn),
-        0x08 => Decoded::Means(Command::ToneOff),
-        0x09 => Decoded::Means(Command::ToneOn),
-        0x0c => Decoded::Means(Command::ClrTimer),
-        0x0e => Decoded::Means(Command::ClrWdt),
-        0x14 => Decoded::Means(Command::Xtal32k),
-        0x18 => Decoded::Means(Command::Rc256k),
-        0x1c => Decoded::Means(Command::Ext256k),
-        0x20 => Decoded::Means(Command::BiasCom(Bias::Half, Commons::Two)),
-        0x21 => Decoded::Means(Command::BiasCom(Bias::Third, Commons::Two)),
-        0x24 => Decoded::Means(Command::BiasCom(Bias::Half, Commons::Three)),
-        0x25 => Decoded::Means(Command::BiasCom(Bias::Third, Commons::Three)),
-        0x28 => Decoded::Means(Command::BiasCom(Bias::Half, Commons::Four)),
-        0x29 => Decoded::Means(Command::BiasCom(Bias::Third, Commons::Four)),
-        0x40 => Decoded::Means(Command::Tone4k),
-        0x60 => Decoded::Means(Command::Tone2k),
-        0x80 => Decoded::Means(Command::IrqDis),
-        0x88 => Decoded::Means(Command::IrqEn),
-        0xa0..=0xa7 => Decoded::Means(Command::Rate(number % 8)),
-        0xe0 => Decoded::Means(Command::Test),
-        0xe3 => Decoded::Means(Command::Normal),
-        _ => Decoded::Undefined,
+        0x00 => Some(Command::SysDis),
+        0x01 => Some(Command::SysEn),
+        0x02 => Some(Command::LcdOff),
+        0x03 => Some(Command::LcdOn),
+        0x04 => Some(Command::TimerDis),
+        0x05 => Some(Command::WdtDis),
+        0x06 => Some(Command::TimerEn),
+        0x07 => Some(Command::WdtEn),
+        0x08 => Some(Command::ToneOff),
+        0x09 => Some(Command::ToneOn),
+        0x0c => Some(Command::ClrTimer),
+        0x0e => Some(Command::ClrWdt),
+        0x14 => Some(Command::Xtal32k),
+        0x18 => Some(Command::Rc256k),
+        0x1c => Some(Command::Ext256k),
+        0x20 => Some(Command::BiasCom(Bias::Half, Commons::Two)),
+        0x21 => Some(Command::BiasCom(Bias::Third, Commons::Two)),
+        0x24 => Some(Command::BiasCom(Bias::Half, Commons::Three)),
+        0x25 => Some(Command::BiasCom(Bias::Third, Commons::Three)),
+        0x28 => Some(Command::BiasCom(Bias::Half, Commons::Four)),
+        0x29 => Some(Command::BiasCom(Bias::Third, Commons::Four)),
+        0x40 => Some(Command::Tone4k),
+        0x60 => Some(Command::Tone2k),
+        0x80 => Some(Command::IrqDis),
+        0x88 => Some(Command::IrqEn),
+        0xa0..=0xa7 => Some(Command::Rate(number % 8)),
+        0xe0 => Some(Command::Test),
+        0xe3 => Some(Command::Normal),
+        _ => None,
     }
 }
 
-// The lowest place of a byte that is the upper eight bits of no command of a part; the number of bytes where there is none.
-pub fn first_undefined(part: Part, codes: &[u8]) -> usize
-    ensures { result ≡ lowest (command_fault part) codes.now }
+// Whether a byte is the upper eight bits of no command of a part. Asked by the number, which is faster than by the command.
+fn is_undefined(part: Part, code: u8) -> bool
+    ensures { result ≡ command_fault part code }
 {
-    let numbers = table::NUMBERS; // once for all the codes: a const array is made anew at each use
-    let mut i: usize = 0;
-    while i < codes.len() {
-        let at = entry_of(part, 2 * (codes[i] as usize));
-        if numbers[at] == 0xff {
-            return i;
-        }
-        i += 1;
-    }
-    i
+    number_of(part, 2 * (code as u16)) == 0xff
+}
+
+// The lowest place of a byte that is the upper eight bits of no command of a part, if there is one.
+pub fn first_undefined(part: Part, codes: &[u8]) -> Option<usize>
+    ensures { result ≡ position (command_fault part) codes.now }
+{
+    codes.iter().position(|code| is_undefined(part, *code))
 }

@@ -1,4 +1,5 @@
 -- Each call answers by a ladder, and its ladder is the table: row by row, once the stream's length is known. Assumes nothing.
+use Rattle.std.specs.Prelude.{Ok, Err}
 use mathlib.Core.Path.{◌≡◌, refl, subst}
 use mathlib.Core.Bool.{Bool, true, false, cond, not}
 use mathlib.Core.List.{List, [], ◌∷◌, map}
@@ -7,7 +8,6 @@ use native.Mathlib.Omega.{arith}
 use lib.Dec.{eqb, ltb}
 use lib.ListN.{length}
 use borrow.Author.Tests.{lt-ltb, le-ltb, ne_eqb}
-use Rattle.ground.specs.declared.Outcome.TheVariants.{Written, Refused}
 use Rattle.ground.specs.Outcomes.{Rung, ladder, Row, AsTabled}
 use Rattle.ground.specs.Parts.{is_part}
 use Rattle.ground.specs.Refusals.{refusal_number, refusal_place}
@@ -22,21 +22,21 @@ use Rattle.host.specs.Host.{host_code, record_refusals, power_on_answer, power_o
 use Rattle.demands.specs.Accepted.{write_table, read_table, command_table, decode_table, power_on_table, code_by, Accepted, WhichRange}
 
 -- what a call returns of a ladder
-told : (rungs : List Rung) (size : ℕ) → host_code (ladder Refused rungs (Written size)) ≡ code_by (map row_of rungs) size
+told : (rungs : List Rung) (size : ℕ) → host_code (ladder Err rungs (Ok size)) ≡ code_by (map row_of rungs) size
 unfolding host_code
 told [] size = refl
 told (rung ∷ rungs) size = by rung.holds (told rungs size)
   where
-    by : (holds : Bool) → host_code (ladder Refused rungs (Written size)) ≡ code_by (map row_of rungs) size
-        → host_code (cond holds (Refused rung.why) (ladder Refused rungs (Written size)))
+    by : (holds : Bool) → host_code (ladder Err rungs (Ok size)) ≡ code_by (map row_of rungs) size
+        → host_code (cond holds (Err rung.why) (ladder Err rungs (Ok size)))
         ≡ cond holds (2147483648 + 256 * refusal_place rung.why + refusal_number rung.why) (code_by (map row_of rungs) size)
     by true rest = refl
     by false rest = rest
 
 -- what is owed of a ladder by its table, of the answer and of the call for C
 record Tabled (rungs : List Rung) (size : ℕ) (table : List Row) (bytes : ℕ) : Type 0 where
-  answer : AsTabled table bytes (ladder Refused rungs (Written size))
-  code : host_code (ladder Refused rungs (Written size)) ≡ code_by table bytes
+  answer : AsTabled table bytes (ladder Err rungs (Ok size))
+  code : host_code (ladder Err rungs (Ok size)) ≡ code_by table bytes
 
 -- it holds where rows and size are those of the table
 tabled : {rungs : List Rung} {size : ℕ} {table : List Row} {bytes : ℕ} → map row_of rungs ≡ table → size ≡ bytes → Tabled rungs size table bytes

@@ -1,4 +1,5 @@
 -- What a request that the driver accepts has passed: no row of its table held. Assumes nothing.
+use Rattle.std.specs.Prelude.{Ok}
 use mathlib.Core.Path.{◌≡◌, ◌∙◌, refl, sym, ap}
 use mathlib.Core.Bool.{true, false}
 use mathlib.Core.List.{List, [], ◌∷◌}
@@ -21,8 +22,7 @@ use Rattle.ground.proofs.PlacesLaws.{lowest_below, none_above}
 use Rattle.commands.specs.Commands.{code_meaning}
 use Rattle.port.specs.Valid.{Nibbles}
 use Rattle.port.proofs.ValidLaws.{nibbles_from}
-use Rattle.ground.specs.declared.Outcome.TheVariants.{Written}
-use Rattle.ground.specs.Outcomes.{left}
+use Rattle.ground.specs.Outcomes.{Outcome, left}
 use Rattle.driver.specs.Refusals.{nibble_fault, command_fault, write_answer}
 use Rattle.streams.specs.Streams.{write_stream, read_stream, command_stream}
 use Rattle.streams.proofs.StreamsLaws.{write_length}
@@ -65,24 +65,24 @@ accepted_write first ns e =
     }
 
 -- a success reports the stream's length, and there was room for it
-pub written_fits : (first : ℕ) (ns : List ℕ) (room count : ℕ) → write_answer first ns room ≡ Written count
+pub written_fits : (first : ℕ) (ns : List ℕ) (room count : ℕ) → write_answer first ns room ≡ Ok count
     → (count ≡ length (write_stream first ns)) × (length (write_stream first ns) ≤ room)
 written_fits first ns room count e =
     let none = (accepted.write first ns room).accepted_only count e in
-    let size : Written (21 + 8 * length ns) ≡ Written count = sym ((accepted.write first ns room).accepted none) ∙ e in
+    let size : ◌≡◌ {A = Outcome} (Ok (21 + 8 * length ns)) (Ok count) = sym ((accepted.write first ns room).accepted none) ∙ e in
     let long = write_length first ns in
     (counted size ∙ sym long, omega (arith, long, ltb-false room (21 + 8 * length ns) none.1.1.1.1.0))
   where
-    counted : {n m : ℕ} → Written n ≡ Written m → m ≡ n
+    counted : {n m : ℕ} → ◌≡◌ {A = Outcome} (Ok n) (Ok m) → m ≡ n
     counted same = cc
 
 -- and what is accepted in some room is accepted in just enough
-pub accepted_enough : (first : ℕ) (ns : List ℕ) (room count : ℕ) → write_answer first ns room ≡ Written count → AcceptsWrite first ns
+pub accepted_enough : (first : ℕ) (ns : List ℕ) (room count : ℕ) → write_answer first ns room ≡ Ok count → AcceptsWrite first ns
 accepted_enough first ns room count e =
     let none = (accepted.write first ns room).accepted_only count e in
     let long = write_length first ns in
     let just : ltb (length (write_stream first ns)) (21 + 8 * length ns) ≡ false = le-ltb (length (write_stream first ns)) (21 + 8 * length ns) (omega (arith, long)) in
-    (accepted.write first ns (length (write_stream first ns))).accepted (none.0, (none.1.0, (none.1.1.0, (none.1.1.1.0, (just, tt))))) ∙ ap Written (sym long)
+    (accepted.write first ns (length (write_stream first ns))).accepted (none.0, (none.1.0, (none.1.1.0, (none.1.1.1.0, (just, tt))))) ∙ ap Ok (sym long)
 
 -- ---- a read
 
@@ -104,7 +104,7 @@ accepted_commands part codes e =
 
 -- a call that succeeds leaves the stream, and nothing but it, in as many bytes as it reports
 pub buffer_holds : (stream buffer : List ℕ) (count : ℕ) → length stream ≤ length buffer
-    → take (length stream) (left (Written count) stream buffer) ≡ stream
+    → take (length stream) (left (Ok count) stream buffer) ≡ stream
 buffer_holds stream buffer count h =
     ap (λ (n : ℕ). take n (over buffer 0 stream)) (sym (zero-add (length stream)))
     ∙ take_over buffer stream 0 (omega arith)

@@ -1,4 +1,5 @@
 -- The cases of RULES "Cases on both sides", computed from the definitions. Assumes nothing.
+use Rattle.std.specs.Prelude.{Some, None}
 use mathlib.Core.Path.{◌≡◌, ◌∙◌, refl, sym, ap, subst}
 use mathlib.Core.Bool.{Bool, true, false}
 use Prim.Native.Nat.{ℕ}
@@ -8,7 +9,6 @@ use Rattle.commands.specs.declared.Bias.TheVariants.{Third}
 use Rattle.commands.specs.declared.Commons.{Commons}
 use Rattle.commands.specs.declared.Commons.TheVariants.{Two, Three, Four}
 use Rattle.commands.specs.declared.Command.TheVariants.{BiasCom}
-use Rattle.commands.specs.declared.Decoded.TheVariants.{Undefined, Means}
 use Rattle.commands.specs.Commands.{byte_meaning}
 use Rattle.clock.specs.declared.Source.{Source}
 use Rattle.clock.specs.declared.Source.TheVariants.{Rc}
@@ -108,7 +108,7 @@ module _ (s : Settings) (on : s.system.on ≡ true) (source : s.system.source �
     λ e. subst (Scans 768 767) (sym (starts Gn e)) (of_gn s.lcd.commons s),
   )
 
-meanings : (part : Part) → (byte_meaning part 0x2B ≡ Means (BiasCom Third Four)) × (byte_meaning part 0x2C ≡ Undefined)
+meanings : (part : Part) → (byte_meaning part 0x2B ≡ Some (BiasCom Third Four)) × (byte_meaning part 0x2C ≡ None)
 unfolding byte_meaning
 meanings Ht = (refl, refl)
 meanings Gn = (refl, refl)

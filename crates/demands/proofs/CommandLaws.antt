@@ -1,13 +1,13 @@
 -- A command stream, fed to a port: each command is one computation, and its ninth bit is answered with its code.
 -- Assumes nothing.
+use Rattle.commands.specs.declared.Command.{Command as Meant}
+use Rattle.std.specs.Prelude.{Option, Some, None}
 use mathlib.Core.Path.{◌≡◌, ◌∙◌, refl, ap}
 use mathlib.Core.Bool.{Bool, true, false, true≢false}
 use mathlib.Core.List.{List, [], ◌∷◌, ◌++◌}
 use Prim.Native.Nat.{ℕ, ◌*◌, ◌/◌, ◌%◌, ◌<◌}
 use native.Mathlib.Omega.{arith}
 use Rattle.ground.specs.declared.Part.{Part}
-use Rattle.commands.specs.declared.Decoded.{Decoded}
-use Rattle.commands.specs.declared.Decoded.TheVariants.{Undefined, Means}
 use Rattle.commands.specs.Commands.{code_meaning, undefined}
 use Rattle.lines.specs.declared.Levels.{Levels}
 use Rattle.phases.specs.declared.Phase.TheVariants.{Command}
@@ -33,9 +33,9 @@ Defined part (code ∷ codes) = ((code < 256) × (command_fault part code ≡ fa
 
 -- ---- the answer to a ninth bit
 
-defined_obeys : (decoded : Decoded) (code : ℕ) → undefined decoded ≡ false → decoded_answer decoded code ≡ Obeyed code
-defined_obeys Undefined code e = absurd (true≢false e)
-defined_obeys (Means command) code e = refl
+defined_obeys : (decoded : Option Meant) (code : ℕ) → undefined decoded ≡ false → decoded_answer decoded code ≡ Obeyed code
+defined_obeys None code e = absurd (true≢false e)
+defined_obeys (Some command) code e = refl
 
 code_obeyed : (part : Part) (code : ℕ) → code < 256 → command_fault part code ≡ false → told part (Code (code_sent code / 2 % 256)) ≡ Obeyed code
 unfolding command_fault

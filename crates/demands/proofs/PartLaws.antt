@@ -1,4 +1,5 @@
 -- A chip stays of its part, whatever happens to it. Assumes nothing.
+use Rattle.std.specs.Prelude.{Option, Some, None}
 use mathlib.Core.Path.{◌≡◌, ◌∙◌, refl}
 use mathlib.Core.List.{[], ◌∷◌}
 use lib.Dec.{ltb}
@@ -8,8 +9,6 @@ use Rattle.clock.specs.declared.Source.{Source}
 use Rattle.clock.specs.declared.Source.TheVariants.{Xtal, Rc, Ext}
 use Rattle.commands.specs.declared.Command.{Command}
 use Rattle.commands.specs.declared.Command.TheVariants.{SysDis, SysEn, LcdOff, LcdOn, TimerDis, WdtDis, TimerEn, WdtEn, ToneOff, ToneOn, ClrTimer, ClrWdt, Xtal32k, Rc256k, Ext256k, BiasCom, Tone4k, Tone2k, IrqDis, IrqEn, Rate, Test, Normal}
-use Rattle.commands.specs.declared.Decoded.{Decoded}
-use Rattle.commands.specs.declared.Decoded.TheVariants.{Undefined, Means}
 use Rattle.commands.specs.Commands.{code_meaning}
 use Rattle.settings.specs.declared.Settings.{Settings}
 use Rattle.rules.specs.Effects.{system_off, effect}
@@ -55,10 +54,10 @@ effect_part (Rate r) s = refl
 effect_part Test s = refl
 effect_part Normal s = refl
 
-obeyed_part : (decoded : Decoded) (s : Settings) → (obeyed_as decoded s).part ≡ s.part
+obeyed_part : (decoded : Option Command) (s : Settings) → (obeyed_as decoded s).part ≡ s.part
 unfolding obeyed_as
-obeyed_part Undefined s = refl
-obeyed_part (Means command) s = effect_part command s
+obeyed_part None s = refl
+obeyed_part (Some command) s = effect_part command s
 
 upshot_part : (upshot : Upshot) (s : Settings) → (settings_after upshot s).part ≡ s.part
 unfolding settings_after

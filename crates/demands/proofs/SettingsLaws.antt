@@ -1,5 +1,7 @@
 -- The settings go by the answers and the ticks: where no command is obeyed the ticks alone move them, and where some are, each
 -- acts at its sample. Assumes nothing.
+use Rattle.std.specs.Prelude.{Option, Some, None}
+use Rattle.commands.specs.declared.Command.{Command}
 use mathlib.Core.Path.{◌≡◌, ◌∙◌, refl, sym, ap, subst}
 use mathlib.Core.List.{List, [], ◌∷◌, ◌++◌}
 use Prim.Native.Nat.{ℕ, zero, suc, ◌+◌, ◌*◌, ◌≤◌, ◌<◌}
@@ -11,8 +13,6 @@ use Rattle.ticks.specs.Ticks.{ticked, advanced}
 use Rattle.answers.specs.declared.Answer.{Answer}
 use Rattle.answers.specs.declared.Answer.TheVariants.{Nothing, Opened, Stored}
 use Rattle.answers.specs.Answers.{Act, Keep, Store, Obey, act}
-use Rattle.commands.specs.declared.Decoded.{Decoded}
-use Rattle.commands.specs.declared.Decoded.TheVariants.{Undefined, Means}
 use Rattle.commands.specs.Commands.{code_meaning}
 use Rattle.lines.specs.Samples.{levels, edge}
 use Rattle.phases.specs.Phases.{address}
@@ -34,11 +34,11 @@ settings_by Keep s = s
 settings_by (Store at nibble) s = s
 settings_by (Obey code) s = obeyed_as (code_meaning s.part (2 * code)) s
 
-decoded_settings : (decoded : Decoded) (code : ℕ) (s : Settings) → code_meaning s.part (2 * code) ≡ decoded
+decoded_settings : (decoded : Option Command) (code : ℕ) (s : Settings) → code_meaning s.part (2 * code) ≡ decoded
     → obeyed_as decoded s ≡ settings_by (act (decoded_answer decoded code)) s
 unfolding obeyed_as
-decoded_settings Undefined code s e = refl
-decoded_settings (Means command) code s e = sym (ap (λ (d : Decoded). obeyed_as d s) e)
+decoded_settings None code s e = refl
+decoded_settings (Some command) code s e = sym (ap (λ (d : Option Command). obeyed_as d s) e)
 
 upshot_settings : (upshot : Upshot) → Own upshot → (s : Settings) → settings_after upshot s ≡ settings_by (act (told s.part upshot)) s
 unfolding settings_after

@@ -7,7 +7,7 @@ use native.Mathlib.Omega.{arith}
 use lib.Dec.{eqb}
 use borrow.Author.Tests.{eqb-true, ne_eqb}
 use Rattle.clock.specs.declared.Source.{Source}
-use Rattle.clock.specs.declared.Prescaler.{Prescaler}
+use Rattle.clock.specs.Counters.{Prescaler}
 use Rattle.clock.specs.declared.Scan.{Scan}
 use Rattle.clock.specs.declared.Counters.{Counters}
 use Rattle.clock.specs.Sizes.{watchdog_size}

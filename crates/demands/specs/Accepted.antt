@@ -1,7 +1,6 @@
 -- Demand 2, its first half: which requests are accepted. RULES "Driver streams" has a table of refusals; here it stands call by call,
 -- in its bare numbers, and each call succeeds exactly where no row holds. For every request, and every room. Assumes nothing.
-use Rattle.std.specs.Prelude.{◌≡◌, cond, not, ◌||◌, List, [], ◌∷◌, ℕ, ◌+◌, ◌*◌, ◌/◌, ◌%◌, ◌≤◌, ◌<◌, eqb, ltb, length}
-use Rattle.ground.specs.declared.Outcome.TheVariants.{Written}
+use Rattle.std.specs.Prelude.{◌≡◌, cond, not, ◌||◌, List, [], ◌∷◌, ℕ, ◌+◌, ◌*◌, ◌/◌, ◌%◌, ◌≤◌, ◌<◌, eqb, ltb, length, Ok}
 use Rattle.ground.specs.Outcomes.{Row, row, number_by, RefusedWith, AsTabled}
 use Rattle.ground.specs.Parts.{part_of}
 use Rattle.ground.specs.Places.{lowest, somewhere}
@@ -113,10 +112,10 @@ pub record WhichRange : Type 0 where
 -- A write, a read, and commands for a part, that the driver accepts: given just room enough, it writes the stream.
 abbrev pub AcceptsWrite : ℕ → List ℕ → Type 0
 AcceptsWrite first nibbles =
-    write_answer first nibbles (length (write_stream first nibbles)) ≡ Written (length (write_stream first nibbles))
+    write_answer first nibbles (length (write_stream first nibbles)) ≡ Ok (length (write_stream first nibbles))
 
 abbrev pub AcceptsRead : ℕ → ℕ → Type 0
-AcceptsRead first count = read_answer first count (length (read_stream first count)) ≡ Written (length (read_stream first count))
+AcceptsRead first count = read_answer first count (length (read_stream first count)) ≡ Ok (length (read_stream first count))
 
 abbrev pub AcceptsCommands : ℕ → List ℕ → Type 0
-AcceptsCommands part codes = command_answer part codes (length (command_stream codes)) ≡ Written (length (command_stream codes))
+AcceptsCommands part codes = command_answer part codes (length (command_stream codes)) ≡ Ok (length (command_stream codes))

@@ -1,6 +1,6 @@
 -- RULES "Cases on both sides", as one table under one statement. Assumes nothing.
-use Rattle.std.specs.Prelude.{◌≡◌, true, false, List, [], ◌∷◌, ℕ, ◌≤◌, length}
-use Rattle.ground.specs.declared.Outcome.TheVariants.{Written}
+use Rattle.commands.specs.declared.Command.{Command}
+use Rattle.std.specs.Prelude.{◌≡◌, true, false, List, [], ◌∷◌, ℕ, ◌≤◌, length, Option, Some, None, Ok}
 use Rattle.ground.specs.Outcomes.{RefusedWith}
 use Rattle.ground.specs.Sizes.{addresses}
 use Rattle.ground.specs.declared.Part.{Part}
@@ -8,8 +8,6 @@ use Rattle.ground.specs.declared.Part.TheVariants.{Ht, Gn}
 use Rattle.commands.specs.declared.Bias.TheVariants.{Third}
 use Rattle.commands.specs.declared.Commons.TheVariants.{Four}
 use Rattle.commands.specs.declared.Command.TheVariants.{BiasCom}
-use Rattle.commands.specs.declared.Decoded.{Decoded}
-use Rattle.commands.specs.declared.Decoded.TheVariants.{Undefined, Means}
 use Rattle.commands.specs.Commands.{byte_meaning}
 use Rattle.clock.specs.Ticks.{scan_start}
 use Rattle.clock.specs.declared.Source.{Source}
@@ -38,12 +36,12 @@ pub record Cleared (clock : Source) (s : Settings) : Type 0 where
   pub flag_off : s.counters.timer.watchdog.flag ≡ false
 
 -- Of (g): b becomes 0 and w stays as it was; both become 0.
-abbrev pub ClearsTimer : Decoded → Settings → Type 0
+abbrev pub ClearsTimer : Option Command → Settings → Type 0
 ClearsTimer meaning s =
     ((obeyed_as meaning s).counters.timer.base.count ≡ 0)
     × ((obeyed_as meaning s).counters.timer.watchdog ≡ s.counters.timer.watchdog)
 
-abbrev pub ClearsBoth : Decoded → Settings → Type 0
+abbrev pub ClearsBoth : Option Command → Settings → Type 0
 ClearsBoth meaning s =
     ((obeyed_as meaning s).counters.timer.base.count ≡ 0) × ((obeyed_as meaning s).counters.timer.watchdog.count ≡ 0)
 
@@ -58,17 +56,17 @@ pub record Cases : Type 0 where
       × (length nibbles ≡ addresses → length (write_stream first nibbles) ≡ 277)
       × (length (read_stream first 1) ≡ 29) × (length (read_stream first addresses) ≡ 277)
   -- (d) from address 31 on one nibble is accepted wherever 29 samples have room, and two are refused with 30 in any room
-  pub d : (n m room : ℕ) → (n ≤ 15 → 29 ≤ room → write_answer 31 (n ∷ []) room ≡ Written 29)
+  pub d : (n m room : ℕ) → (n ≤ 15 → 29 ≤ room → write_answer 31 (n ∷ []) room ≡ Ok 29)
       × (RefusedWith 30 0 (write_answer 31 (n ∷ m ∷ []) room))
-      × (29 ≤ room → read_answer 31 1 room ≡ Written 29) × (RefusedWith 30 0 (read_answer 31 2 room))
+      × (29 ≤ room → read_answer 31 1 room ≡ Ok 29) × (RefusedWith 30 0 (read_answer 31 2 room))
   -- (e) one command takes 27
   pub e : (code : ℕ) → length (command_stream (code ∷ [])) ≡ 27
   -- (f) 2B is 4 commons, 2C is undefined
-  pub f : (part : Part) → (byte_meaning part 0x2B ≡ Means (BiasCom Third Four)) × (byte_meaning part 0x2C ≡ Undefined)
+  pub f : (part : Part) → (byte_meaning part 0x2B ≡ Some (BiasCom Third Four)) × (byte_meaning part 0x2C ≡ None)
   -- (g) in the HT 0D makes b 0 and w stays as it was, 0F makes both 0
   pub g : (s : Settings) → ClearsTimer (byte_meaning Ht 0x0D) s × ClearsBoth (byte_meaning Ht 0x0F) s
   -- in the GN 0B does what 0D does in the HT, 0D is undefined, and 0F makes both 0
-  pub g_of_gn : (s : Settings) → ClearsTimer (byte_meaning Gn 0x0B) s × (byte_meaning Gn 0x0D ≡ Undefined) × ClearsBoth (byte_meaning Gn 0x0F) s
+  pub g_of_gn : (s : Settings) → ClearsTimer (byte_meaning Gn 0x0B) s × (byte_meaning Gn 0x0D ≡ None) × ClearsBoth (byte_meaning Gn 0x0F) s
   -- (h) from the crystal the flag comes with tick 1,024 and not with the one before, whatever the source of IRQ is
   pub h : (s : Settings) → Cleared Xtal s
       → ((advanced 1024 s).counters.timer.watchdog.flag ≡ true) × ((advanced 1023 s).counters.timer.watchdog.flag ≡ false)

@@ -1,13 +1,12 @@
 -- What happens to a chip (RULES "Samples" and "Ticks"): samples, with ticks of its clock between them; and what a host notes of it.
 -- Assumes nothing.
-use Rattle.std.specs.Prelude.{◌≡◌, ℕ, suc, ◌≤◌, cond, not, ◌&&◌, List, [], ◌∷◌, eqb, length}
+use Rattle.std.specs.Prelude.{◌≡◌, ℕ, suc, ◌≤◌, cond, not, ◌&&◌, List, [], ◌∷◌, eqb, length, Ok}
 use Rattle.ground.specs.Bits.{bit_number}
 use Rattle.answers.specs.declared.Answer.{Answer}
 use Rattle.phases.specs.declared.Line.{Line}
 use Rattle.phases.specs.declared.Line.TheVariants.{Released, Driven}
 use Rattle.chip.specs.declared.Chip.{Chip}
 use Rattle.chip.specs.Chip as chip
-use Rattle.ground.specs.declared.Outcome.TheVariants.{Written}
 use Rattle.driver.specs.Refusals.{decode_answer}
 use Rattle.streams.specs.Streams.{decoded}
 
@@ -57,5 +56,5 @@ notes c (tick ∷ es) = notes (happened c tick) es
 -- What was noted reads back as these values: the driver's decoder accepts it in any room of at least a byte a value, and the
 -- bytes that it writes are the values.
 pub record ReadsAs (noted values : List ℕ) : Type 0 where
-  pub accepted : (room : ℕ) → length values ≤ room → decode_answer noted room ≡ Written (length values)
+  pub accepted : (room : ℕ) → length values ≤ room → decode_answer noted room ≡ Ok (length values)
   pub bytes : decoded noted ≡ values

@@ -1,10 +1,10 @@
 -- The driver's cases of RULES "Cases on both sides", (c) and (d), computed from the definitions. Assumes nothing.
+use Rattle.std.specs.Prelude.{Ok}
 use mathlib.Core.Path.{◌≡◌, ◌∙◌, refl, ap}
 use mathlib.Core.List.{List, [], ◌∷◌}
 use Prim.Native.Nat.{ℕ, ◌+◌, ◌*◌, ◌≤◌}
 use borrow.Author.Tests.{le-ltb}
 use lib.ListN.{length}
-use Rattle.ground.specs.declared.Outcome.TheVariants.{Written}
 use Rattle.ground.specs.Outcomes.{RefusedWith}
 use Rattle.streams.specs.Lengths.{transfer_frame, nibble_samples}
 use Rattle.streams.specs.Streams.{write_stream, read_stream}
@@ -25,7 +25,7 @@ pub read_thirty_two : (first : ℕ) → length (read_stream first 32) ≡ 277
 read_thirty_two first = read_length first 32
 
 -- (d) one nibble at address 31, and two from there on
-pub write_at_31 : (nibble room : ℕ) → nibble ≤ 15 → 29 ≤ room → write_answer 31 (nibble ∷ []) room ≡ Written 29
+pub write_at_31 : (nibble room : ℕ) → nibble ≤ 15 → 29 ≤ room → write_answer 31 (nibble ∷ []) room ≡ Ok 29
 unfolding write_answer write_stream
 write_at_31 nibble room n h = simp (le-ltb 15 nibble n, le-ltb room 29 h)
 
@@ -33,7 +33,7 @@ pub write_past_31 : (nibble other room : ℕ) → RefusedWith 30 0 (write_answer
 unfolding write_answer
 write_past_31 nibble other room = (refl, refl)
 
-pub read_at_31 : (room : ℕ) → 29 ≤ room → read_answer 31 1 room ≡ Written 29
+pub read_at_31 : (room : ℕ) → 29 ≤ room → read_answer 31 1 room ≡ Ok 29
 unfolding read_answer read_stream
 read_at_31 room h = simp (le-ltb room 29 h)
 

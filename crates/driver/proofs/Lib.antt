@@ -1,2 +1,3 @@
 pub mod CasesLaws
 pub mod Determined
+pub mod LadderLaws

@@ -4,7 +4,8 @@
 
 ghost use Rattle.std.specs.Prelude.{◌≡◌};
 ghost use Rattle.ground.specs.Bits.{bit_at};
-ghost use Rattle.frames.specs.Frames.{more, turned, next, stray, collected, identified, ident_taken, read_to_taken, write_to_taken, nibble_taken, command_taken, taken, read_offered, write_offered, offered, closed, frame};
+ghost use Rattle.frames.specs.declared.Upshot.TheVariants.{Answered};
+ghost use Rattle.frames.specs.Frames.{framed, more, turned, reached, next, collected, identified, taken, offered_in, offered, closed, frame};
 
 use answers::Answer;
 use lines::Edge;
@@ -27,15 +28,24 @@ pub struct Framed {
     pub upshot: Upshot,
 }
 
+impl Framed {
+    // A frame whose sample is answered and comes to no more.
+    fn answered(phase: Phase, line: Line, answer: Answer) -> Framed
+        ensures { result ≡ framed phase line (Answered answer) }
+    {
+        Framed {
+            phase,
+            line,
+            upshot: Upshot::Answered(answer),
+        }
+    }
+}
+
 // A value with one bit more behind it.
 fn with_bit(value: u16, bit: bool) -> u16
     ensures { result ≡ more value bit }
 {
-    let doubled = 2 * (value as u32);
-    if bit {
-        return ((doubled + 1) % 512) as u16;
-    }
-    (doubled % 512) as u16
+    ((2 * (value as u32) + (bit as u32)) % 512) as u16
 }
 
 // The nibble of four bits that came D0 first.
@@ -43,6 +53,13 @@ fn nibble_of(value: u16) -> u8
     ensures { result ≡ turned value }
 {
     (value / 8 % 2 + 2 * (value / 4 % 2) + 4 * (value / 2 % 2) + 8 * (value % 2)) as u8
+}
+
+// The address that six bits say.
+fn address_of(value: u16) -> u8
+    ensures { result ≡ reached value }
+{
+    (value % phases::ROUND) as u8
 }
 
 // The address after an address.
@@ -53,38 +70,29 @@ fn next_of(address: u8) -> u8
 }
 
 // Bit `position` of a nibble.
+#[tactic(auto, using(ground::proofs::BitsLaws::bit_at_past))]
 fn bit_of(position: u8, nibble: u8) -> bool
     ensures { result ≡ bit_at position nibble }
 {
-    if 8 <= position {
-        return false;
-    }
-    (nibble >> position) % 2 == 1
+    position < 8 && (nibble >> position) % 2 == 1
 }
 
 // A bit that is taken and leaves the frame in a phase.
 fn collect(phase: Phase) -> Framed
     ensures { result ≡ collected phase }
 {
-    Framed {
-        phase,
-        line: Line::Released,
-        upshot: Upshot::Answered(Answer::Taken),
-    }
+    Framed::answered(phase, Line::Released, Answer::Taken)
 }
 
-// An edge that means nothing here.
-fn stray_in(phase: Phase, line: Line) -> Framed
-    ensures { result ≡ stray phase line }
+// A bit that is offered and leaves the frame in a phase.
+fn drive(phase: Phase, at: u8, bit: bool) -> Framed
+    ensures { result ≡ offered_in phase at bit }
 {
-    Framed {
-        phase,
-        line,
-        upshot: Upshot::Answered(Answer::Stray),
-    }
+    Framed::answered(phase, Line::Driven(bit), Answer::Offered(at, bit))
 }
 
 // The third bit of an ID.
+#[tactic(auto, unfolding(crate::specs::Frames::identified))]
 fn identify(id: u16) -> Framed
     ensures { result ≡ identified id }
 {
@@ -92,182 +100,100 @@ fn identify(id: u16) -> Framed
         6 => collect(Phase::ReadTo(0, 0)),
         5 => collect(Phase::WriteTo(0, 0)),
         4 => collect(Phase::Command(0, 0)),
-        _ => Framed {
-            phase: Phase::Dead,
-            line: Line::Released,
-            upshot: Upshot::Answered(Answer::Unknown),
-        },
+        _ => Framed::answered(Phase::Dead, Line::Released, Answer::Unknown),
     }
 }
 
-fn take_ident(bit: bool, count: u8, value: u16) -> Framed
-    ensures { result ≡ ident_taken bit count value }
-{
-    let bits = with_bit(value, bit);
-    if count < 2 {
-        return collect(Phase::Ident(count + 1, bits));
-    }
-    identify(bits)
-}
-
-fn take_read_to(bit: bool, count: u8, value: u16) -> Framed
-    ensures { result ≡ read_to_taken bit count value }
-{
-    let bits = with_bit(value, bit);
-    if count < 5 {
-        return collect(Phase::ReadTo(count + 1, bits));
-    }
-    collect(Phase::Reading((bits % phases::ROUND) as u8, 0))
-}
-
-fn take_write_to(bit: bool, count: u8, value: u16) -> Framed
-    ensures { result ≡ write_to_taken bit count value }
-{
-    let bits = with_bit(value, bit);
-    if count < 5 {
-        return collect(Phase::WriteTo(count + 1, bits));
-    }
-    collect(Phase::Writing(0, 0, (bits % phases::ROUND) as u8, 0))
-}
-
-fn take_nibble(bit: bool, count: u8, value: u16, at: u8, position: u8) -> Framed
-    ensures { result ≡ nibble_taken bit count value at position }
-{
-    let bits = with_bit(value, bit);
-    let unfinished = count < 3;
-    if unfinished {
-        return collect(Phase::Writing(count + 1, bits, at, position));
-    }
-    Framed {
-        phase: Phase::Writing(0, 0, next_of(at), 0),
-        line: Line::Released,
-        upshot: Upshot::Nibble(at, nibble_of(bits)),
-    }
-}
-
-fn take_command(bit: bool, count: u8, value: u16) -> Framed
-    ensures { result ≡ command_taken bit count value }
-{
-    let bits = with_bit(value, bit);
-    if count < 8 {
-        return collect(Phase::Command(count + 1, bits));
-    }
-    Framed {
-        phase: Phase::Command(0, 0),
-        line: Line::Released,
-        upshot: Upshot::Code((bits / 2 % 256) as u8),
-    }
-}
-
-// A WR rise that takes a bit.
+// A WR rise. In a read frame, in a dead one and in none it is stray; elsewhere its bit is taken, and the last bit of an ID, an
+// address, a nibble or a command completes it.
+#[tactic(auto, unfolding(crate::specs::Frames::taken, crate::specs::Frames::ident_taken, crate::specs::Frames::read_to_taken, crate::specs::Frames::write_to_taken, crate::specs::Frames::nibble_taken, crate::specs::Frames::command_taken))]
 fn take(bit: bool, phase: Phase, line: Line) -> Framed
     ensures { result ≡ taken bit phase line }
 {
     match phase {
-        Phase::Idle => stray_in(phase, line),
-        Phase::Ident(count, value) => take_ident(bit, count, value),
-        Phase::ReadTo(count, value) => take_read_to(bit, count, value),
-        Phase::WriteTo(count, value) => take_write_to(bit, count, value),
-        Phase::Reading(_, _) => stray_in(phase, line),
-        Phase::Writing(count, value, at, position) => take_nibble(bit, count, value, at, position),
-        Phase::Command(count, value) => take_command(bit, count, value),
-        Phase::Dead => stray_in(phase, line),
+        Phase::Ident(count, value) if count < 2 => {
+            collect(Phase::Ident(count + 1, with_bit(value, bit)))
+        }
+        Phase::Ident(_, value) => identify(with_bit(value, bit)),
+        Phase::ReadTo(count, value) if count < 5 => {
+            collect(Phase::ReadTo(count + 1, with_bit(value, bit)))
+        }
+        Phase::ReadTo(_, value) => collect(Phase::Reading(address_of(with_bit(value, bit)), 0)),
+        Phase::WriteTo(count, value) if count < 5 => {
+            collect(Phase::WriteTo(count + 1, with_bit(value, bit)))
+        }
+        Phase::WriteTo(_, value) => {
+            collect(Phase::Writing(0, 0, address_of(with_bit(value, bit)), 0))
+        }
+        Phase::Writing(count, value, at, position) if count < 3 => {
+            collect(Phase::Writing(count + 1, with_bit(value, bit), at, position))
+        }
+        Phase::Writing(_, value, at, _) => Framed {
+            phase: Phase::Writing(0, 0, next_of(at), 0),
+            line: Line::Released,
+            upshot: Upshot::Nibble(at, nibble_of(with_bit(value, bit))),
+        },
+        Phase::Command(count, value) if count < 8 => {
+            collect(Phase::Command(count + 1, with_bit(value, bit)))
+        }
+        Phase::Command(_, value) => Framed {
+            phase: Phase::Command(0, 0),
+            line: Line::Released,
+            upshot: Upshot::Code((with_bit(value, bit) / 2 % 256) as u8),
+        },
+        Phase::Idle | Phase::Reading(_, _) | Phase::Dead => {
+            Framed::answered(phase, line, Answer::Stray)
+        }
     }
 }
 
-fn offer_reading(nibble: u8, at: u8, position: u8) -> Framed
-    ensures { result ≡ read_offered nibble at position }
-{
-    let bit = bit_of(position, nibble);
-    if position < 3 {
-        return Framed {
-            phase: Phase::Reading(at, position + 1),
-            line: Line::Driven(bit),
-            upshot: Upshot::Answered(Answer::Offered(at, bit)),
-        };
-    }
-    Framed {
-        phase: Phase::Reading(next_of(at), 0),
-        line: Line::Driven(bit),
-        upshot: Upshot::Answered(Answer::Offered(at, bit)),
-    }
-}
-
-fn offer_writing(nibble: u8, count: u8, value: u16, at: u8, position: u8) -> Framed
-    ensures { result ≡ write_offered nibble count value at position }
-{
-    let bit = bit_of(position, nibble);
-    let following = ((position as u16 + 1) % 4) as u8;
-    Framed {
-        phase: Phase::Writing(count, value, at, following),
-        line: Line::Driven(bit),
-        upshot: Upshot::Answered(Answer::Offered(at, bit)),
-    }
-}
-
-// An RD fall that offers a bit of the nibble at the frame's address.
+// An RD fall: a frame that reads or writes offers a bit of the nibble at its address. Elsewhere it is stray.
+#[tactic(auto, unfolding(crate::specs::Frames::offered, crate::specs::Frames::read_offered))]
 fn offer(nibble: u8, phase: Phase, line: Line) -> Framed
     ensures { result ≡ offered nibble phase line }
 {
     match phase {
-        Phase::Idle => stray_in(phase, line),
-        Phase::Ident(_, _) => stray_in(phase, line),
-        Phase::ReadTo(_, _) => stray_in(phase, line),
-        Phase::WriteTo(_, _) => stray_in(phase, line),
-        Phase::Reading(at, position) => offer_reading(nibble, at, position),
-        Phase::Writing(count, value, at, position) => {
-            offer_writing(nibble, count, value, at, position)
+        Phase::Reading(at, position) if position < 3 => {
+            let bit = bit_of(position, nibble);
+            drive(Phase::Reading(at, position + 1), at, bit)
         }
-        Phase::Command(_, _) => stray_in(phase, line),
-        Phase::Dead => stray_in(phase, line),
+        Phase::Reading(at, position) => {
+            let bit = bit_of(position, nibble);
+            drive(Phase::Reading(next_of(at), 0), at, bit)
+        }
+        Phase::Writing(count, value, at, position) => {
+            let bit = bit_of(position, nibble);
+            let following = ((position as u16 + 1) % 4) as u8;
+            drive(Phase::Writing(count, value, at, following), at, bit)
+        }
+        _ => Framed::answered(phase, line, Answer::Stray),
     }
 }
 
 // CS rises: the frame ends.
+#[tactic(auto, unfolding(crate::specs::Frames::closed))]
 fn close(phase: Phase) -> Framed
     ensures { result ≡ closed phase }
 {
-    if phase.unfinished() == 0 {
-        return Framed {
-            phase: Phase::Idle,
-            line: Line::Released,
-            upshot: Upshot::Answered(Answer::Closed),
-        };
-    }
-    Framed {
-        phase: Phase::Idle,
-        line: Line::Released,
-        upshot: Upshot::Answered(Answer::Dropped),
+    match phase.unfinished() {
+        0 => Framed::answered(Phase::Idle, Line::Released, Answer::Closed),
+        _ => Framed::answered(Phase::Idle, Line::Released, Answer::Dropped),
     }
 }
 
+// Phase and line are two arguments, as the definition `frame` has them, and a frame's answer is one value with both.
 // The frame after a sample that is `edge` to it, where `nibble` stands at the frame's address.
+#[tactic(auto, unfolding(crate::specs::Frames::frame))]
 pub fn frame_after(edge: Edge, nibble: u8, phase: Phase, line: Line) -> Framed
     ensures { result ≡ frame edge nibble phase line }
 {
     match edge {
-        Edge::Rests => Framed {
-            phase: Phase::Idle,
-            line: Line::Released,
-            upshot: Upshot::Answered(Answer::Nothing),
-        },
+        Edge::Rests => Framed::answered(Phase::Idle, Line::Released, Answer::Nothing),
         Edge::Closes => close(phase),
-        Edge::Opens => Framed {
-            phase: Phase::Ident(0, 0),
-            line: Line::Released,
-            upshot: Upshot::Answered(Answer::Opened),
-        },
-        Edge::Clashes => Framed {
-            phase,
-            line,
-            upshot: Upshot::Answered(Answer::Clash),
-        },
+        Edge::Opens => Framed::answered(Phase::Ident(0, 0), Line::Released, Answer::Opened),
+        Edge::Clashes => Framed::answered(phase, line, Answer::Clash),
         Edge::Takes(bit) => take(bit, phase, line),
         Edge::Offers => offer(nibble, phase, line),
-        Edge::Quiet => Framed {
-            phase,
-            line,
-            upshot: Upshot::Answered(Answer::Nothing),
-        },
+        Edge::Quiet => Framed::answered(phase, line, Answer::Nothing),
     }
 }

@@ -1,6 +1,7 @@
 -- Laws of a choice by a test, and of tests that hold together. Assumes nothing.
 use mathlib.Core.Path.{◌≡◌, refl, sym}
 use mathlib.Core.Bool.{Bool, true, false, cond, ◌&&◌}
+use Rattle.std.specs.Prelude.{Some, None}
 
 module _ {A : Type 0} (P : A → Type 0) where
   -- what holds of both sides holds of the choice
@@ -17,6 +18,16 @@ module _ {A : Type 0} (P : A → Type 0) where
 pub of_choice : {A B : Type 0} (f : A → B) (b : Bool) (x y : A) → f (cond b x y) ≡ cond b (f x) (f y)
 of_choice f true x y = refl
 of_choice f false x y = refl
+
+-- a choice between something and nothing tells its test, and what the something is
+module _ {A : Type 0} (x : A) where
+  pub none_chosen : (t : Bool) → cond t (Some x) None ≡ None → t ≡ false
+  none_chosen true e = cc
+  none_chosen false e = refl
+
+  pub some_chosen : (t : Bool) {y : A} → cond t (Some x) None ≡ Some y → (t ≡ true) × (x ≡ y)
+  some_chosen true e = (refl, cc)
+  some_chosen false e = (cc, cc)
 
 -- ---- tests that hold together
 

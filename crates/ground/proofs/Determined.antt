@@ -6,12 +6,12 @@ use Rattle.ground.proofs.first_above.Kinds as first_above_kinds
 use Rattle.ground.proofs.first_above.Reads as first_above_reads
 use Rattle.ground.proofs.memory_from.Kinds as memory_from_kinds
 use Rattle.ground.proofs.memory_from.Reads as memory_from_reads
-use Rattle.ground.proofs.Part.number.Kinds as part_number_kinds
-use Rattle.ground.proofs.Part.number.Reads as part_number_reads
+use Rattle.ground.proofs.U8FromPart.from.Kinds as part_number_kinds
+use Rattle.ground.proofs.U8FromPart.from.Reads as part_number_reads
 use Rattle.ground.proofs.part_of.Kinds as part_of_kinds
 use Rattle.ground.proofs.part_of.Reads as part_of_reads
-use Rattle.ground.proofs.Refusal.number.Kinds as refusal_number_kinds
-use Rattle.ground.proofs.Refusal.number.Reads as refusal_number_reads
+use Rattle.ground.proofs.U8FromRefusal.from.Kinds as refusal_number_kinds
+use Rattle.ground.proofs.U8FromRefusal.from.Reads as refusal_number_reads
 use Rattle.ground.proofs.Refusal.place.Kinds as refusal_place_kinds
 use Rattle.ground.proofs.Refusal.place.Reads as refusal_place_reads
 

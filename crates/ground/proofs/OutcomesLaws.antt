@@ -6,23 +6,26 @@ use Prim.Native.Nat.{ℕ}
 use native.Mathlib.Omega.{arith}
 use lib.ListN.{length}
 use Rattle.ground.specs.declared.Refusal.{Refusal}
-use Rattle.ground.specs.declared.Outcome.{Outcome}
-use Rattle.ground.specs.declared.Outcome.TheVariants.{Written, Refused}
+use Rattle.std.specs.Prelude.{Ok, Err}
 use Rattle.ground.specs.Refusals.{refusal_number, refusal_place}
 use Rattle.ground.specs.Written.{over}
-use Rattle.ground.specs.Outcomes.{ComesTo, Rung, ladder, Row, row, NoneHolds, RefusedWith, AsTabled}
+use Rattle.ground.specs.Outcomes.{Outcome, ComesTo, Rung, ladder, Row, row, NoneHolds, RefusedWith, AsTabled}
 
 -- ---- what a call owes
 
 module _ {due : Outcome} {stream before : List ℕ} where
   -- refused, with no byte written
-  pub refuses : {why : Refusal} → due ≡ Refused why → ComesTo due stream before (Refused why) before
+  pub refuses : {why : Refusal} → due ≡ Err why → ComesTo due stream before (Err why) before
   refuses {why} e = record { answer = sym e; bytes = rw e refl }
 
   -- not refused, with all bytes written
-  pub succeeds : {after : List ℕ} {count : ℕ} → due ≡ Written (length stream) → count ≡ length stream
-      → after ≡ over before 0 stream → ComesTo due stream before (Written count) after
-  succeeds {after} {count} e whole all = record { answer = ap Written whole ∙ sym e; bytes = rw e all }
+  pub succeeds : {after : List ℕ} {count : ℕ} → due ≡ Ok (length stream) → count ≡ length stream
+      → after ≡ over before 0 stream → ComesTo due stream before (Ok count) after
+  succeeds {after} {count} e whole all = record { answer = ap Ok whole ∙ sym e; bytes = rw e all }
+
+-- a success is no refusal
+not_written : (why : Refusal) (count : ℕ) → Err why ≡ Ok count → ⊥
+not_written why count e = let z : ◌≡◌ {A = ℕ} 0 1 = cc in omega arith
 
 -- ---- a ladder is its table
 
@@ -30,13 +33,9 @@ module _ {due : Outcome} {stream before : List ℕ} where
 abbrev pub row_of : Rung → Row
 row_of rung = row rung.holds (refusal_number rung.why) (refusal_place rung.why)
 
--- a success is no refusal
-not_written : (why : Refusal) (count : ℕ) → Refused why ≡ Written count → ⊥
-not_written why count e = let z : ◌≡◌ {A = ℕ} 0 1 = cc in omega arith
-
 -- the first row is asked before the others
 passes : (test : Bool) (why : Refusal) (rest : Outcome) (rows : List Row) (size : ℕ) → AsTabled rows size rest
-    → AsTabled (row test (refusal_number why) (refusal_place why) ∷ rows) size (cond test (Refused why) rest)
+    → AsTabled (row test (refusal_number why) (refusal_place why) ∷ rows) size (cond test (Err why) rest)
 passes true why rest rows size t =
     record {
       accepted = λ none. absurd (true≢false none.0);
@@ -46,7 +45,7 @@ passes true why rest rows size t =
   where
     first_holds : (before : List Row) (first : Row) (after : List Row)
         → row true (refusal_number why) (refusal_place why) ∷ rows ≡ before ++ first ∷ after → NoneHolds before
-        → RefusedWith first.number first.place (Refused why)
+        → RefusedWith first.number first.place (Err why)
     first_holds [] first after e none = (cc, cc)
     first_holds (other ∷ before) first after e none =
         let same : true ≡ other.holds = cc in absurd (true≢false (same ∙ none.0))
@@ -65,7 +64,7 @@ passes false why rest rows size t =
     later (other ∷ before) first after e none holds =
         let rest : rows ≡ before ++ first ∷ after = cc in t.refused before first after rest none.1 holds
 
-pub ladder_tabled : (rungs : List Rung) (size : ℕ) → AsTabled (map row_of rungs) size (ladder Refused rungs (Written size))
+pub ladder_tabled : (rungs : List Rung) (size : ℕ) → AsTabled (map row_of rungs) size (ladder Err rungs (Ok size))
 ladder_tabled [] size =
     record {
       accepted = λ none. refl;
@@ -74,7 +73,7 @@ ladder_tabled [] size =
     }
   where
     no_row : (before : List Row) (first : Row) (after : List Row) → [] ≡ before ++ first ∷ after → NoneHolds before
-        → first.holds ≡ true → RefusedWith first.number first.place (Written size)
+        → first.holds ≡ true → RefusedWith first.number first.place (Ok size)
     no_row [] first after e none holds = let z : ◌≡◌ {A = ℕ} 0 1 = cc in omega arith
     no_row (other ∷ before) first after e none holds = let z : ◌≡◌ {A = ℕ} 0 1 = cc in omega arith
 ladder_tabled (rung ∷ rungs) size = passes rung.holds rung.why _ (map row_of rungs) size (ladder_tabled rungs size)

@@ -1,16 +1,16 @@
--- Laws of the lowest place at which a test holds, as a search finds it. Assumes nothing.
-use mathlib.Core.Path.{◌≡◌, ◌∙◌, refl, sym}
+-- Laws of the lowest place at which a test holds: std's `position` finds it. Assumes nothing.
+use mathlib.Core.Path.{◌≡◌, ◌∙◌, refl, sym, ap}
 use mathlib.Core.Bool.{Bool, true, false, cond}
 use mathlib.Core.List.{List, [], ◌∷◌}
-use Prim.Native.Nat.{ℕ, zero, suc, ◌+◌, ◌≤◌, ◌<◌}
+use Prim.Native.Nat.{ℕ, zero, suc, ◌≤◌, ◌<◌}
 use native.Mathlib.Omega.{arith}
 use native.Mathlib.Nat.{le_of_suc-le-suc, not-suc-le-zero}
-use native.Mathlib.Numerals.{add-one}
 use lib.Dec.{ltb}
-use lib.ListN.{length, drop, get_or, drop_of_length-le}
-use lib.Seq.{drop-cons}
+use lib.ListN.{length, get_or}
 use borrow.Author.Tests.{ltb-false}
-use Rattle.ground.specs.Places.{lowest}
+use Rattle.std.specs.Prelude.{position, Option, Some, None}
+use Rattle.std.proofs.lemmas.List.Recursion.{is_position_or_len}
+use Rattle.ground.specs.Places.{lowest, somewhere}
 
 module _ (test : ℕ → Bool) where
   -- below the lowest place the test fails
@@ -24,29 +24,26 @@ module _ (test : ℕ → Bool) where
       later true h = absurd (not-suc-le-zero h)
       later false h = le_of_suc-le-suc h
 
--- A search has passed the first i of a list.
-pub record Searched (test : ℕ → Bool) (list : List ℕ) (i : ℕ) : Type 0 where
-  pub reach : i ≤ length list
-  pub passed : lowest test list ≡ i + lowest test (drop i list)
+-- `position` finds the lowest place, and finds none where the test holds nowhere
+pub position_lowest : (test : ℕ → Bool) (values : List ℕ)
+    → position test values ≡ cond (somewhere test values) (Some (lowest test values)) None
+position_lowest test values =
+    let same = is_position_or_len (lowest test) test refl (λ value rest. ap (λ (n : ℕ). cond (test value) 0 n) (omega arith)) values in
+    ap (λ (n : ℕ). cond (ltb n (length values)) (Some n) None) (sym same)
 
-pub searched_starts : (test : ℕ → Bool) (list : List ℕ) → Searched test list 0
-searched_starts test list = record { reach = omega arith; passed = omega arith }
+-- what a search that ended so says of the list
+abbrev pub Found : (ℕ → Bool) → List ℕ → Option ℕ → Type 0
+Found test values (Some place) = (somewhere test values ≡ true) × (lowest test values ≡ place)
+Found test values None = somewhere test values ≡ false
 
-module _ {test : ℕ → Bool} {list : List ℕ} {i : ℕ} (s : Searched test list i) where
-  searched_next : i < length list → lowest test list ≡ i + cond (test (get_or list i 0)) 0 (suc (lowest test (drop (i + 1) list)))
-  searched_next h = s.passed ∙ rw (add-one, drop-cons list i 0 h)
-
-  -- the next one fails the test
-  pub searched_passes : i < length list → test (get_or list i 0) ≡ false → Searched test list (i + 1)
-  searched_passes h e = record { reach = omega arith; passed = searched_next h ∙ rw e (omega arith) }
-
-  -- the next one meets it
-  pub searched_finds : i < length list → test (get_or list i 0) ≡ true → i ≡ lowest test list
-  searched_finds h e = sym (searched_next h ∙ rw e (omega arith))
-
-  -- there is none
-  pub searched_ends : length list ≤ i → i ≡ lowest test list
-  searched_ends h = sym (s.passed ∙ rw (drop_of_length-le list h) (omega arith))
+pub position_found : (test : ℕ → Bool) (values : List ℕ) (found : Option ℕ) → found ≡ position test values
+    → Found test values found
+position_found test values found e =
+    rw (e ∙ position_lowest test values) (by (somewhere test values) refl)
+  where
+    by : (holds : Bool) → somewhere test values ≡ holds → Found test values (cond holds (Some (lowest test values)) None)
+    by true h = (h, refl)
+    by false h = h
 
 -- where no place is found, no value is above the limit
 pub none_above : (limit : ℕ) (list : List ℕ) → length list ≤ lowest (ltb limit) list

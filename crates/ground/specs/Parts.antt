@@ -1,10 +1,8 @@
 -- RULES "Which sheet decides": the two parts, by their numbers. Assumes nothing.
-use Rattle.std.specs.Prelude.{ℕ, Bool, List, [], ◌∷◌}
+use Rattle.std.specs.Prelude.{ℕ, Bool, List, [], ◌∷◌, Option, Some, None}
 use Rattle.ground.specs.Codes.{read_by, is_code, case_of}
 use Rattle.ground.specs.declared.Part.{Part}
 use Rattle.ground.specs.declared.Part.TheVariants.{Ht, Gn}
-use Rattle.ground.specs.declared.PartRead.{PartRead}
-use Rattle.ground.specs.declared.PartRead.TheVariants.{Known, Unknown}
 
 abbrev pub part_number : Part → ℕ
 part_number Ht = 0
@@ -21,5 +19,5 @@ is_part = is_code part_number parts
 abbrev pub part_of : ℕ → Part
 part_of = case_of part_number parts Ht
 
-unfoldable pub part_read : ℕ → PartRead
-part_read = read_by Known Unknown part_number parts
+unfoldable pub part_read : ℕ → Option Part
+part_read = read_by Some None part_number parts

@@ -3,8 +3,7 @@
 // law. Assumes nothing.
 #![tactic(auto)]
 
-ghost use Rattle.std.specs.Prelude.{◌≡◌, ltb};
-ghost use Rattle.ground.specs.Places.{lowest};
+ghost use Rattle.std.specs.Prelude.{◌≡◌, ltb, position};
 ghost use Rattle.ground.specs.Written.{memory_from};
 ghost use Rattle.ground.specs.Parts.{part_number, part_read};
 ghost use Rattle.ground.specs.Refusals.{refusal_number, refusal_place};
@@ -21,33 +20,28 @@ pub enum Part {
     Gn,
 }
 
-// What the number of a part stands for.
-#[derive(Clone, Copy)]
-pub enum PartRead {
-    Known(Part),
-    Unknown,
-}
+impl From<Part> for u8 {
+    ghost from_gives = { λ part number. number ≡ part_number part };
 
-impl Part {
     // Its number, which callers give and the state record has.
-    pub fn number(self) -> u8
-        ensures { result ≡ part_number self }
-    {
-        match self {
+    fn from(part: Part) -> u8 {
+        match part {
             Part::Ht => 0,
             Part::Gn => 1,
         }
     }
 }
 
-// The part with this number, if there is one.
-pub fn part_of(number: usize) -> PartRead
+// The part with this number, if there is one. An Option, and no TryFrom with an error of its own: of a number that is none's power-on
+// and the driver make 43, and whoever reads a record makes 28.
+#[tactic(auto, unfolding(crate::specs::Parts::part_read))]
+pub fn part_of(number: usize) -> Option<Part>
     ensures { result ≡ part_read number }
 {
     match number {
-        0 => PartRead::Known(Part::Ht),
-        1 => PartRead::Known(Part::Gn),
-        _ => PartRead::Unknown,
+        0 => Some(Part::Ht),
+        1 => Some(Part::Gn),
+        _ => None,
     }
 }
 
@@ -82,12 +76,12 @@ pub enum Refusal {
     UnknownPart,
 }
 
-impl Refusal {
+impl From<Refusal> for u8 {
+    ghost from_gives = { λ why number. number ≡ refusal_number why };
+
     // The refusal's number in the table of RULES "Driver streams".
-    pub fn number(self) -> u8
-        ensures { result ≡ refusal_number self }
-    {
-        match self {
+    fn from(why: Refusal) -> u8 {
+        match why {
             Refusal::SampleAbove => 20,
             Refusal::NothingAsked => 21,
             Refusal::AddressAbove => 22,
@@ -103,7 +97,9 @@ impl Refusal {
             Refusal::UnknownPart => 43,
         }
     }
+}
 
+impl Refusal {
     // Where the fault is: the lowest index, or 0 for a refusal that has no place.
     pub fn place(self) -> usize
         ensures { result ≡ refusal_place self }
@@ -126,25 +122,11 @@ impl Refusal {
     }
 }
 
-// What a call that writes bytes comes to: how many it wrote over the buffer lent, or why it wrote none.
-#[derive(Clone, Copy)]
-pub enum Outcome {
-    Written(usize),
-    Refused(Refusal),
-}
-
-// The lowest place of a value above a limit; the number of values where there is none.
-pub fn first_above(values: &[u8], limit: u8) -> usize
-    ensures { result ≡ lowest (ltb limit) values.now }
+// The lowest place of a value above a limit, if there is one.
+pub fn first_above(values: &[u8], limit: u8) -> Option<usize>
+    ensures { result ≡ position (ltb limit) values.now }
 {
-    let mut i: usize = 0;
-    while i < values.len() {
-        if limit < values[i] {
-            return i;
-        }
-        i += 1;
-    }
-    i
+    values.iter().position(|value| limit < *value)
 }
 
 // A value for each address: the first of some values, with zeros where there are fewer.
@@ -152,10 +134,7 @@ pub fn memory_from(values: &[u8]) -> [u8; ADDRESSES]
     ensures { result ≡ memory_from values.now }
 {
     let mut kept = [0u8; ADDRESSES];
-    let mut i: usize = 0;
-    while i < ADDRESSES && i < values.len() {
-        kept[i] = values[i];
-        i += 1;
-    }
+    let count = values.len().min(ADDRESSES);
+    kept[..count].copy_from_slice(&values[..count]);
     kept
 }

@@ -1,4 +1,5 @@
 -- What the code of an answer tells, and that 32 bits hold the code of every answer of the driver. Assumes nothing.
+use Rattle.std.specs.Prelude.{Ok, Err}
 use mathlib.Core.Path.{◌≡◌, refl}
 use mathlib.Core.Bool.{Bool, true, false, not, ◌||◌, true≢false}
 use mathlib.Core.List.{List, [], ◌∷◌}
@@ -14,8 +15,7 @@ use Rattle.ground.specs.declared.Refusal.TheVariants.{OutputShort, NotedCount, N
 use Rattle.ground.specs.Parts.{part_of}
 use Rattle.ground.specs.Places.{lowest}
 use Rattle.ground.specs.Refusals.{refusal_number, refusal_place}
-use Rattle.ground.specs.declared.Outcome.{Outcome}
-use Rattle.ground.specs.declared.Outcome.TheVariants.{Written, Refused}
+use Rattle.ground.specs.Outcomes.{Outcome}
 use Rattle.ground.specs.Outcomes.{succeeded, Rung, ladder}
 use Rattle.driver.specs.Refusals.{miscounted, nibble_fault, noted_fault, command_fault}
 use Rattle.driver.specs.Refusals.{write_refusals, read_refusals, command_refusals, decode_refusals, write_answer, read_answer, command_answer, decode_answer}
@@ -41,24 +41,24 @@ number_small UnknownPart = omega arith
 
 -- A success counts few bytes, a refusal has a low place.
 abbrev pub Small : Outcome → Type 0
-Small (Written count) = count ≤ 585
-Small (Refused why) = refusal_place why ≤ 128
+Small (Ok count) = count ≤ 585
+Small (Err why) = refusal_place why ≤ 128
 
 -- 32 bits hold the code of a refusal, and of every answer
-pub refused_held : (why : Refusal) → refusal_place why ≤ 128 → refused_code why < 4294967296
+refused_held : (why : Refusal) → refusal_place why ≤ 128 → refused_code why < 4294967296
 unfolding host_code
 refused_held why h = omega (arith, number_small why)
 
 pub answer_held : (answer : Outcome) → Small answer → host_code answer < 4294967296
 unfolding host_code
-answer_held (Written count) h = omega arith
-answer_held (Refused why) h = refused_held why h
+answer_held (Ok count) h = omega arith
+answer_held (Err why) h = refused_held why h
 
 -- a code from 2^31 on is a refusal, and every other a success
 pub code_tells : (answer : Outcome) → Small answer → ltb (host_code answer) 2147483648 ≡ succeeded answer
 unfolding host_code
-code_tells (Written count) h = lt-ltb count 2147483648 (omega arith)
-code_tells (Refused why) h = le-ltb (refused_code why) 2147483648 (omega arith)
+code_tells (Ok count) h = lt-ltb count 2147483648 (omega arith)
+code_tells (Err why) h = le-ltb (refused_code why) 2147483648 (omega arith)
 
 -- and a refusal's number and place can be read off it
 pub code_parts : (why : Refusal)
@@ -80,7 +80,7 @@ abbrev pub Low : List Rung → ℕ → Type 0
 Low [] size = size ≤ 585
 Low (rung ∷ rungs) size = (refusal_place rung.why ≤ 128) × (rung.holds ≡ false → Low rungs size)
 
-pub ladder_small : (rungs : List Rung) (size : ℕ) → Low rungs size → Small (ladder Refused rungs (Written size))
+pub ladder_small : (rungs : List Rung) (size : ℕ) → Low rungs size → Small (ladder Err rungs (Ok size))
 ladder_small [] size low = low
 ladder_small (rung ∷ rungs) size low =
     by_cases Small rung.holds (λ holds. low.0) (λ fails. ladder_small rungs size (low.1 fails))
@@ -156,3 +156,16 @@ decode_small noted room =
             λ clean. (omega arith, λ fits. omega (arith, few, decoded_length noted)),
           ),
     )
+
+-- so 32 bits hold the code of each
+pub write_held : (first : ℕ) (nibbles : List ℕ) (room : ℕ) → host_code (write_answer first nibbles room) < 4294967296
+write_held first nibbles room = answer_held _ (write_small first nibbles room)
+
+pub read_held : (first count room : ℕ) → host_code (read_answer first count room) < 4294967296
+read_held first count room = answer_held _ (read_small first count room)
+
+pub commands_held : (part : ℕ) (codes : List ℕ) (room : ℕ) → host_code (command_answer part codes room) < 4294967296
+commands_held part codes room = answer_held _ (commands_small part codes room)
+
+pub decode_held : (noted : List ℕ) (room : ℕ) → host_code (decode_answer noted room) < 4294967296
+decode_held noted room = answer_held _ (decode_small noted room)

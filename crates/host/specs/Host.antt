@@ -1,13 +1,12 @@
 -- RULES "Driver streams" and the power-on of RULES "Commands", as calls for C: what each exported call returns, and the bytes that
 -- it leaves, for every list of bytes. Assumes nothing.
-use Rattle.std.specs.Prelude.{ℕ, ◌+◌, ◌*◌, cond, List, [], ◌∷◌, ◌++◌, ltb, length}
+use Rattle.std.specs.Prelude.{ℕ, ◌+◌, ◌*◌, cond, List, [], ◌∷◌, ◌++◌, ltb, length, Ok, Err}
 use Rattle.ground.specs.Sizes.{record_length}
 use Rattle.ground.specs.declared.Refusal.{Refusal}
 use Rattle.ground.specs.declared.Refusal.TheVariants.{OutputShort}
-use Rattle.ground.specs.declared.Outcome.{Outcome}
-use Rattle.ground.specs.declared.Outcome.TheVariants.{Written, Refused}
+use Rattle.ground.specs.Outcomes.{Outcome}
 use Rattle.ground.specs.Outcomes.{outcome_number, outcome_place, succeeded, left, Rung, refused_if, ladder}
-use Rattle.power.specs.PowerOn.{power_on_refusals, powered_on}
+use Rattle.power.specs.PowerOn.{power_on_refusals, chip_on, powered_on}
 use Rattle.streams.specs.Streams.{write_stream, read_stream, command_stream, decoded}
 use Rattle.driver.specs.Refusals.{write_answer, read_answer, command_answer, decode_answer}
 use Rattle.state.specs.Record.{record_of}
@@ -19,18 +18,18 @@ host_code outcome =
     cond (succeeded outcome) (outcome_number outcome) (2147483648 + 256 * outcome_place outcome + outcome_number outcome)
 
 abbrev pub refused_code : Refusal → ℕ
-refused_code why = host_code (Refused why)
+refused_code why = host_code (Err why)
 
--- Power-on: the record of the chip handed out. It is refused as the chip refuses it, 43, 29 and then 23 with its place; and 25 last
--- of all, where the 64 bytes of a record do not fit.
+-- Power-on: the record of the chip that is on; where it was refused, that of an HT with an empty memory stands there, and is not written.
+-- A call is refused as the chip is, 43, 29 and then 23 with its place; and by 25 last of all, where the 64 bytes of a record do not fit.
 unfoldable pub power_on_record : ℕ → List ℕ → List ℕ
-power_on_record part memory = record_of (powered_on part memory).chip
+power_on_record part memory = record_of (chip_on (powered_on part memory))
 
 abbrev pub record_refusals : ℕ → List ℕ → ℕ → List Rung
 record_refusals part memory room = power_on_refusals part memory ++ refused_if (ltb room record_length) OutputShort ∷ []
 
 unfoldable pub power_on_answer : ℕ → List ℕ → ℕ → Outcome
-power_on_answer part memory room = ladder Refused (record_refusals part memory room) (Written record_length)
+power_on_answer part memory room = ladder Err (record_refusals part memory room) (Ok record_length)
 
 unfoldable pub power_on_returns : ℕ → List ℕ → List ℕ → ℕ
 power_on_returns part memory bytes = host_code (power_on_answer part memory (length bytes))

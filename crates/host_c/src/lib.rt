@@ -1,4 +1,5 @@
 // The five calls of the maker's side as a library for C: libhost.a. Assumes nothing.
+// What they return are numbers, a refusal's too, since the callers are in C.
 #![tactic(auto)]
 
 ghost use Rattle.std.specs.Prelude.{◌≡◌};

@@ -12,7 +12,7 @@ pub fn step_in_place(chip: &mut Chip, sample: u8) -> Answer
     ensures { (chip.new ≡ (stepped chip.old sample).chip)
         × (result ≡ (stepped chip.old sample).answer) }
 {
-    let done = (*chip).step(sample);
+    let done = chip.step(sample);
     *chip = done.chip;
     done.answer
 }

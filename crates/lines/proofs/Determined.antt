@@ -2,10 +2,10 @@
 -- Assumes nothing.
 use mathlib.Core.Path.{◌∙◌, sym}
 use Rattle.ground.specs.Determined.{Determined}
-use Rattle.lines.proofs.Levels.number.Kinds as levels_number_kinds
-use Rattle.lines.proofs.Levels.number.Reads as levels_number_reads
-use Rattle.lines.proofs.levels_of.Kinds as levels_of_kinds
-use Rattle.lines.proofs.levels_of.Reads as levels_of_reads
+use Rattle.lines.proofs.U8FromLevels.from.Kinds as levels_number_kinds
+use Rattle.lines.proofs.U8FromLevels.from.Reads as levels_number_reads
+use Rattle.lines.proofs.LevelsFromU8.from.Kinds as levels_of_kinds
+use Rattle.lines.proofs.LevelsFromU8.from.Reads as levels_of_reads
 use Rattle.lines.proofs.edge_of.Kinds as edge_of_kinds
 use Rattle.lines.proofs.edge_of.Reads as edge_of_reads
 

@@ -25,24 +25,26 @@ pub enum Edge {
     Quiet,
 }
 
-impl Levels {
+impl From<Levels> for u8 {
+    ghost from_gives = { λ levels number. number ≡ levels_number levels };
+
     // The sample that has these levels.
-    pub fn number(self) -> u8
-        ensures { result ≡ levels_number self }
-    {
-        (self.cs as u8) + 2 * (self.wr as u8) + 4 * (self.rd as u8) + 8 * (self.bit as u8)
+    fn from(levels: Levels) -> u8 {
+        (levels.cs as u8) + 2 * (levels.wr as u8) + 4 * (levels.rd as u8) + 8 * (levels.bit as u8)
     }
 }
 
-// The levels that a sample's number stands for. Only its lowest four bits count.
-pub fn levels_of(sample: u8) -> Levels
-    ensures { result ≡ levels sample }
-{
-    Levels {
-        cs: sample % 2 == 1,
-        wr: sample / 2 % 2 == 1,
-        rd: sample / 4 % 2 == 1,
-        bit: sample / 8 % 2 == 1,
+impl From<u8> for Levels {
+    ghost from_gives = { λ sample result. result ≡ levels sample };
+
+    // The levels that a sample's number stands for. Only its lowest four bits count.
+    fn from(sample: u8) -> Levels {
+        Levels {
+            cs: sample % 2 == 1,
+            wr: sample / 2 % 2 == 1,
+            rd: sample / 4 % 2 == 1,
+            bit: sample / 8 % 2 == 1,
+        }
     }
 }
 
@@ -50,42 +52,33 @@ pub fn levels_of(sample: u8) -> Levels
 fn rises(before: bool, after: bool) -> bool
     ensures { result ≡ rose before after }
 {
-    if before {
-        return false;
-    }
-    after
+    !before && after
 }
 
 // What the clocks do while CS is low.
 fn clocked_by(rise: bool, fall: bool, bit: bool) -> Edge
     ensures { result ≡ clocked rise fall bit }
 {
-    if rise {
-        if fall {
-            return Edge::Clashes;
-        }
-        return Edge::Takes(bit);
+    match (rise, fall) {
+        (true, true) => Edge::Clashes,
+        (true, false) => Edge::Takes(bit),
+        (false, true) => Edge::Offers,
+        (false, false) => Edge::Quiet,
     }
-    if fall {
-        return Edge::Offers;
-    }
-    Edge::Quiet
 }
 
-// What a sample is to the frame: the first rule that applies.
+// What a sample is to the frame: CS decides first, and the clocks count only where it stays low.
 pub fn edge_of(before: Levels, after: Levels) -> Edge
     ensures { result ≡ edge before after }
 {
-    if after.cs {
-        if before.cs {
-            return Edge::Rests;
+    match (before.cs, after.cs) {
+        (true, true) => Edge::Rests,
+        (false, true) => Edge::Closes,
+        (true, false) => Edge::Opens,
+        (false, false) => {
+            let rise = rises(before.wr, after.wr);
+            let fall = rises(after.rd, before.rd);
+            clocked_by(rise, fall, after.bit)
         }
-        return Edge::Closes;
     }
-    if before.cs {
-        return Edge::Opens;
-    }
-    let rise = rises(before.wr, after.wr);
-    let fall = rises(after.rd, before.rd);
-    clocked_by(rise, fall, after.bit)
 }

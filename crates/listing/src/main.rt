@@ -6,24 +6,38 @@
 
 ghost use Rattle.std.specs.Prelude.{◌≡◌, ◌≤◌, length, IfOk};
 
-use ground::Outcome;
 use std::fs::{File, OpenFile};
 use std::io::{ErrorKind, Read, Write};
 use std::process::ExitCode;
 use std::rt::{Env, Files};
 use std::{env, io};
 
-const LISTED: u8 = b'0';
+// How the program ended.
+#[derive(Clone, Copy)]
+enum End {
+    Listed,
+    NoCapture,
+    NotRead,
+    NotWritten,
+}
 
-const NO_CAPTURE: u8 = b'1';
-
-const NOT_READ: u8 = b'3';
-
-const NOT_WRITTEN: u8 = b'4';
+impl From<End> for u8 {
+    // The digit of the status that `./list` makes of it.
+    fn from(end: End) -> u8 {
+        match end {
+            End::Listed => b'0',
+            End::NoCapture => b'1',
+            End::NotRead => b'3',
+            End::NotWritten => b'4',
+        }
+    }
+}
 
 // The status by which a shell tells a program that a closed pipe ended.
 const PIPE_CLOSED: u8 = 141;
 
+// The buffers are of fixed lengths, so that a listing asks for no memory, and made in functions of their own, so that a proof of what uses
+// one does not compute with each of its bytes.
 fn in_buffer() -> [u8; 65537]
     ensures { 65537 ≡ length result }
 {
@@ -43,26 +57,19 @@ fn has_argument(rt: &(impl Env + Alloc)) -> bool {
 }
 
 // Says on descriptor 3 how the program ended, for whoever started it with an argument. Where nothing is open there it says nothing.
-fn end(rt: &(impl Env + Alloc + Files), status: u8) {
+fn tell(rt: &(impl Env + Alloc + Files), end: End) {
     if has_argument(rt) {
         if let Ok(mut descriptor) = File::options().append(true).open(rt, "/dev/fd/3") {
-            let _ = descriptor.write_all(&[status]);
+            let _ = descriptor.write_all(&[u8::from(end)]);
         }
     }
 }
 
 // Whether a listing goes to the end of its input: its last line is then `end`, and else `bad` or `long`.
 fn is_whole(listing: &[u8]) -> bool {
-    let mut first = 0;
-    let mut i = listing.len();
-    while i > 0 {
-        i -= 1;
-        if listing[i] == b'\n' && first != 0 {
-            break;
-        }
-        first = listing[i];
-    }
-    first == b'e'
+    let lines = listing.strip_suffix(b"\n").unwrap_or(listing);
+    let mut backwards = lines.rsplit(|byte| *byte == b'\n');
+    backwards.next().is_some_and(|line| line.starts_with(b"e"))
 }
 
 // Says on standard error what could not be done, and why: in the system's words, without the number that stands behind them.
@@ -74,7 +81,8 @@ fn complain(rt: &(impl Eprint + Alloc), what: &str, error: io::Error) -> io::Res
     }
 }
 
-// Fills a buffer from standard input as far as that goes, and says how many bytes came.
+// Fills a buffer from standard input as far as that goes, and says how many bytes came. A loop over `read`, since `read_to_end` reads
+// to the heap and so could fail for want of memory, and `read_exact` does not say how many bytes came.
 fn read_full(reader: &mut impl Read, bytes: &mut [u8]) -> io::Result<usize>
     ensures { IfOk result (λ count. count ≤ length bytes.new) }
 {
@@ -97,11 +105,11 @@ fn print(rt: &(impl Print + Eprint + Alloc + Env + Files), listing: &[u8]) -> Ex
             return ExitCode::from(PIPE_CLOSED);
         }
         let _ = complain(rt, "output", error);
-        end(rt, NOT_WRITTEN);
+        tell(rt, End::NotWritten);
     } else if is_whole(listing) {
-        end(rt, LISTED);
+        tell(rt, End::Listed);
     } else {
-        end(rt, NO_CAPTURE);
+        tell(rt, End::NoCapture);
     }
     ExitCode::SUCCESS
 }
@@ -112,13 +120,13 @@ fn main(rt: HostRuntime) -> ExitCode {
         Ok(count) => count,
         Err(error) => {
             let _ = complain(&rt, "input", error);
-            end(&rt, NOT_READ);
+            tell(&rt, End::NotRead);
             return ExitCode::SUCCESS;
         }
     };
     let mut out = out_buffer();
     match transcript::list(&input[..count], &mut out) {
-        Outcome::Written(written) => print(&rt, &out[..written]),
-        Outcome::Refused(_) => ExitCode::SUCCESS,
+        Ok(written) => print(&rt, &out[..written]),
+        Err(_) => ExitCode::SUCCESS,
     }
 }

@@ -2,6 +2,8 @@
 -- results meet them. Assumes nothing.
 use mathlib.Core.Path.{◌∙◌, sym}
 use Rattle.ground.specs.Determined.{Determined, DeterminedWith}
+use Rattle.phases.proofs.U8FromLine.from.Kinds as line_number_kinds
+use Rattle.phases.proofs.U8FromLine.from.Reads as line_number_reads
 use Rattle.phases.proofs.Phase.unfinished.Kinds as unfinished_kinds
 use Rattle.phases.proofs.Phase.unfinished.Reads as unfinished_reads
 use Rattle.phases.proofs.Phase.address.Kinds as address_kinds
@@ -15,5 +17,8 @@ unfinished_determined κs args x y end end' p q = p ∙ sym q
 pub address_determined : Determined 0 address_kinds.ps address_kinds.r address_reads.Post
 address_determined κs args x y end end' p q = p ∙ sym q
 
-pub write_frame_determined : DeterminedWith 1 write_frame_kinds.ps write_frame_kinds.r (λ κs end. end.1.1.1.0.now) write_frame_reads.Post
+pub write_frame_determined : DeterminedWith 1 write_frame_kinds.ps write_frame_kinds.r (λ κs end. end.1.0.now) write_frame_reads.Post
 write_frame_determined κs args x y end end' p q = (p.0 ∙ sym q.0, p.1 ∙ sym q.1)
+
+pub line_number_determined : Determined 0 line_number_kinds.ps line_number_kinds.r line_number_reads.Post
+line_number_determined κs args x y end end' p q = p ∙ sym q

@@ -1,5 +1,6 @@
 -- Laws of a frame's bytes. Right ones say a frame that is valid and is written as the same bytes; a valid frame is written as
 -- right ones, and read again it is the same. Assumes nothing.
+use Rattle.std.specs.Prelude.{Option, Some, None}
 use mathlib.Core.Path.{◌≡◌, ◌∙◌, refl, sym, ap}
 use mathlib.Core.Bool.{Bool, true, false, cond, ◌&&◌}
 use mathlib.Core.List.{List}
@@ -22,13 +23,8 @@ use Rattle.phases.specs.declared.Phase.{Phase}
 use Rattle.phases.specs.declared.Phase.TheVariants.{Idle, Ident, ReadTo, WriteTo, Reading, Writing, Command, Dead}
 use Rattle.phases.specs.declared.Line.{Line}
 use Rattle.phases.specs.declared.Line.TheVariants.{Released, Driven}
-use Rattle.phases.specs.declared.PhaseRead.{PhaseRead}
-use Rattle.phases.specs.declared.PhaseRead.TheVariants.{Phased, NoPhase}
-use Rattle.phases.specs.declared.LineRead.{LineRead}
-use Rattle.phases.specs.declared.LineRead.TheVariants.{Data, NoLine}
-use Rattle.phases.specs.declared.FrameRead.TheVariants.{Frame, NoFrame}
 use Rattle.phases.specs.Phases.{round, address, unfinished, value_of, position_of, phase_number, line_number}
-use Rattle.phases.specs.Frame.{frame_at, data_at, frame_bytes, in_range, goes_with_cs, most_bits, bits_right, rest_right, frame_right, phase_read, phase_in, line_read, line_in, value_in, frame_fits, phase_at, levels_at, line_at, frame_read}
+use Rattle.phases.specs.Frame.{frame_at, data_at, frame_bytes, in_range, goes_with_cs, most_bits, bits_right, rest_right, frame_right, phase_read, phase_in, line_read, line_in, value_in, frame_fits, phase_at, levels_at, line_at, frame_read, framed}
 use Rattle.phases.specs.Valid.{FrameValid}
 use Rattle.phases.proofs.PhasesLaws.{line_number_small}
 
@@ -106,25 +102,41 @@ frame_zeros at position line e =
 
 -- ---- codes in range are the codes of something
 
-phase_found : PhaseRead → ℕ
-phase_found (Phased phase) = 1
-phase_found NoPhase = 0
+phase_found : Option Phase → ℕ
+phase_found (Some phase) = 1
+phase_found None = 0
 
-pub phase_there : (code count value at position : ℕ) → code ≤ 7 → phase_read code count value at position ≡ NoPhase → ⊥
+phase_there : (code count value at position : ℕ) → code ≤ 7 → phase_read code count value at position ≡ None → ⊥
 unfolding phase_read phase_found
 phase_there code count value at position h e =
     let found = agree (λ (k : ℕ). phase_found (phase_read k count value at position)) (λ (k : ℕ). 1) 8 refl code (omega arith) in
     omega (arith, sym found ∙ ap phase_found e)
 
-line_found : LineRead → ℕ
-line_found (Data line) = 1
-line_found NoLine = 0
+line_found : Option Line → ℕ
+line_found (Some line) = 1
+line_found None = 0
 
-pub line_there : (n : ℕ) → n ≤ 2 → line_read n ≡ NoLine → ⊥
+line_there : (n : ℕ) → n ≤ 2 → line_read n ≡ None → ⊥
 unfolding line_read line_found
 line_there n h e =
     let found = agree (λ (k : ℕ). line_found (line_read k)) (λ (k : ℕ). 1) 3 refl n (omega arith) in
     omega (arith, sym found ∙ ap line_found e)
+
+-- so bytes with no phase or no line are not right
+unless : (t : Bool) → (t ≡ true → ⊥) → t ≡ false
+unless true h = absurd (h refl)
+unless false h = refl
+
+module _ (lines code count value at position line : ℕ) where
+  pub no_phase : phase_read code count value at position ≡ None → frame_right lines code count value at position line ≡ false
+  no_phase e =
+      unless (frame_right lines code count value at position line)
+      (λ right. phase_there code count value at position (frame_has lines code count value at position line right).phase e)
+
+  pub no_line : line_read line ≡ None → frame_right lines code count value at position line ≡ false
+  no_line e =
+      unless (frame_right lines code count value at position line)
+      (λ right. line_there line (frame_has lines code count value at position line right).data_low e)
 
 -- ---- read and written, written and read
 
@@ -302,27 +314,3 @@ module _ (b : List ℕ) (lines : Levels) (phase : Phase) (line : Line) (e : gath
       ∙ ap (λ (v : ℕ).
       frame_right (levels_number lines) (phase_number phase) (unfinished phase) v (address phase) (position_of phase) (line_number line)) value_back
       ∙ frame_right_lem (levels_number lines) lines.cs line (levels_small lines) (ap (λ (l : Levels). l.cs) (levels_back lines)) phase v
-
--- ---- what reading answers, by the tests in turn
-
-pub read_length : (b : List ℕ) → (length b ≡ record_length → ⊥) → NoFrame ≡ frame_read b
-unfolding frame_read
-read_length b h = rw (ne_eqb _ _ h)
-
-module _ (b : List ℕ) (long : length b ≡ record_length) where
-  pub read_wrong : frame_fits b ≡ false → NoFrame ≡ frame_read b
-  unfolding frame_read
-  read_wrong e = rw (eq-eqb _ _ long, e)
-
-  module _ (fits : frame_fits b ≡ true) where
-    -- right bytes have a phase and a line
-    pub read_phase : phase_at b ≡ NoPhase → NoFrame ≡ frame_read b
-    read_phase e = absurd (phase_there (byte b 33) _ _ _ _ (fits_has b fits).phase e)
-
-    pub read_line : line_at b ≡ NoLine → NoFrame ≡ frame_read b
-    read_line e = absurd (line_there (byte b data_at) (fits_has b fits).data_low e)
-
-    pub read_whole : (phase : Phase) (line : Line) → phase_at b ≡ Phased phase → line_at b ≡ Data line
-        → Frame (levels_at b) phase line ≡ frame_read b
-    unfolding frame_read
-    read_whole phase line p l = rw (eq-eqb _ _ long, fits, p, l)

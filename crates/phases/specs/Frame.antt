@@ -1,22 +1,17 @@
 -- RULES "State record and simulator", bytes 32 to 39: the lines, a phase and DATA as bytes, which bytes are right, and what right
 -- bytes say. Assumes nothing.
-use Rattle.std.specs.Prelude.{ℕ, ◌+◌, ◌*◌, ◌/◌, ◌%◌, ◌^◌, Bool, true, false, cond, not, ◌&&◌, ◌||◌, List, [], ◌∷◌, ltb, leb, eqb, length, get_or}
+use Rattle.std.specs.Prelude.{ℕ, ◌+◌, ◌*◌, ◌/◌, ◌%◌, ◌^◌, Bool, true, false, cond, not, ◌&&◌, ◌||◌, List, [], ◌∷◌, ltb, leb, eqb, length, get_or, Option, Some, None}
 use Rattle.ground.specs.Sizes.{addresses, record_length}
 use Rattle.ground.specs.Codes.{read_by}
 use Rattle.ground.specs.Outcomes.{left_from, written_as}
 use Rattle.ground.specs.Written.{byte}
 use Rattle.lines.specs.declared.Levels.{Levels}
 use Rattle.lines.specs.Samples.{levels, levels_number}
+use Rattle.phases.specs.declared.Frame.{Frame}
 use Rattle.phases.specs.declared.Phase.{Phase}
 use Rattle.phases.specs.declared.Phase.TheVariants.{Idle, Ident, ReadTo, WriteTo, Reading, Writing, Command, Dead}
 use Rattle.phases.specs.declared.Line.{Line}
 use Rattle.phases.specs.declared.Line.TheVariants.{Released, Driven}
-use Rattle.phases.specs.declared.PhaseRead.{PhaseRead}
-use Rattle.phases.specs.declared.PhaseRead.TheVariants.{Phased, NoPhase}
-use Rattle.phases.specs.declared.LineRead.{LineRead}
-use Rattle.phases.specs.declared.LineRead.TheVariants.{Data, NoLine}
-use Rattle.phases.specs.declared.FrameRead.{FrameRead}
-use Rattle.phases.specs.declared.FrameRead.TheVariants.{Frame, NoFrame}
 use Rattle.phases.specs.Phases.{round, unfinished, address, phase_number, value_of, position_of, line_number}
 
 -- Where a record has the frame's bytes: the lines first, then the phase, its unfinished bits with their value, its address and
@@ -44,6 +39,10 @@ position_at = frame_at + 6
 
 abbrev pub data_at : ℕ
 data_at = frame_at + 7
+
+-- The three as one value.
+abbrev pub framed : Levels → Phase → Line → Frame
+framed levels phase line = record { levels = levels; phase = phase; line = line }
 
 -- ---- as bytes
 
@@ -86,26 +85,26 @@ frame_right lines code count value at position line =
 -- ---- what right bytes say
 
 -- The phase, byte 33, with the unfinished bits, the address and the reading position that it carries.
-unfoldable pub phase_read : ℕ → ℕ → ℕ → ℕ → ℕ → PhaseRead
+unfoldable pub phase_read : ℕ → ℕ → ℕ → ℕ → ℕ → Option Phase
 phase_read code count value at position =
-    read_by Phased NoPhase phase_number
+    read_by Some None phase_number
     (Idle ∷ Ident count value ∷ ReadTo count value ∷ WriteTo count value ∷ Reading at position ∷ Writing count value at position
     ∷ Command count value ∷ Dead ∷ [])
     code
 
 -- The phase that was read; where there is none, that of no frame stands for it.
-abbrev pub phase_in : PhaseRead → Phase
-phase_in (Phased phase) = phase
-phase_in NoPhase = Idle
+abbrev pub phase_in : Option Phase → Phase
+phase_in (Some phase) = phase
+phase_in None = Idle
 
 -- DATA, byte 39.
-unfoldable pub line_read : ℕ → LineRead
-line_read code = read_by Data NoLine line_number (Released ∷ Driven false ∷ Driven true ∷ []) code
+unfoldable pub line_read : ℕ → Option Line
+line_read code = read_by Some None line_number (Released ∷ Driven false ∷ Driven true ∷ []) code
 
 -- What was read of DATA; released stands for none.
-abbrev pub line_in : LineRead → Line
-line_in (Data line) = line
-line_in NoLine = Released
+abbrev pub line_in : Option Line → Line
+line_in (Some line) = line
+line_in None = Released
 
 -- ---- in a record
 
@@ -116,18 +115,18 @@ module _ (b : List ℕ) where
   abbrev pub frame_fits : Bool
   frame_fits = frame_right (byte b frame_at) (byte b code_at) (byte b count_at) value_in (byte b address_at) (byte b position_at) (byte b data_at)
 
-  abbrev pub phase_at : PhaseRead
+  abbrev pub phase_at : Option Phase
   phase_at = phase_read (byte b code_at) (byte b count_at) value_in (byte b address_at) (byte b position_at)
 
   abbrev pub levels_at : Levels
   levels_at = levels (byte b frame_at)
 
-  abbrev pub line_at : LineRead
+  abbrev pub line_at : Option Line
   line_at = line_read (byte b data_at)
 
   -- A list that is as long as a record and has right bytes there; and the frame in it.
   abbrev pub holds_frame : Bool
   holds_frame = eqb (length b) record_length && frame_fits
 
-  unfoldable pub frame_read : FrameRead
-  frame_read = cond holds_frame (Frame levels_at (phase_in phase_at) (line_in line_at)) NoFrame
+  unfoldable pub frame_read : Option Frame
+  frame_read = cond holds_frame (Some (framed levels_at (phase_in phase_at) (line_in line_at))) None

@@ -7,7 +7,7 @@ ghost use Rattle.ground.specs.Outcomes.{written_as};
 ghost use Rattle.phases.specs.Phases.{unfinished, address, value_of, position_of, phase_number, line_number};
 ghost use Rattle.phases.specs.Frame.{frame_over};
 
-use ground::{Outcome, Refusal};
+use ground::Refusal;
 use lines::Levels;
 
 // How many addresses a frame counts through before it comes round to the first: those of six bits.
@@ -51,12 +51,20 @@ pub enum Line {
     Driven(bool),
 }
 
-impl Line {
+// The four lines, where the frame stands, and what the chip does to DATA: what a record has in bytes 32 to 39.
+#[derive(Clone, Copy)]
+pub struct Frame {
+    pub levels: Levels,
+    pub phase: Phase,
+    pub line: Line,
+}
+
+impl From<Line> for u8 {
+    ghost from_gives = { λ line number. number ≡ line_number line };
+
     // Its number in the state record and among the pins: 0 released, 1 low, 2 high.
-    fn number(self) -> u8
-        ensures { result ≡ line_number self }
-    {
-        match self {
+    fn from(line: Line) -> u8 {
+        match line {
             Line::Released => 0,
             Line::Driven(bit) => 1 + (bit as u8),
         }
@@ -69,14 +77,12 @@ impl Phase {
         ensures { result ≡ unfinished self }
     {
         match self {
-            Phase::Idle => 0,
-            Phase::Ident(count, _) => count,
-            Phase::ReadTo(count, _) => count,
-            Phase::WriteTo(count, _) => count,
-            Phase::Reading(_, _) => 0,
-            Phase::Writing(count, _, _, _) => count,
-            Phase::Command(count, _) => count,
-            Phase::Dead => 0,
+            Phase::Ident(count, _)
+            | Phase::ReadTo(count, _)
+            | Phase::WriteTo(count, _)
+            | Phase::Writing(count, _, _, _)
+            | Phase::Command(count, _) => count,
+            Phase::Idle | Phase::Reading(_, _) | Phase::Dead => 0,
         }
     }
 
@@ -85,17 +91,13 @@ impl Phase {
         ensures { result ≡ address self }
     {
         match self {
-            Phase::Idle => 0,
-            Phase::Ident(_, _) => 0,
-            Phase::ReadTo(_, _) => 0,
-            Phase::WriteTo(_, _) => 0,
             Phase::Reading(at, _) => at,
             Phase::Writing(_, _, at, _) => at,
-            Phase::Command(_, _) => 0,
-            Phase::Dead => 0,
+            _ => 0,
         }
     }
-    // Its number in the state record.
+
+    // Its number in the state record. No From: a phase is more than its number, which leaves out what it carries.
     fn number(self) -> u8
         ensures { result ≡ phase_number self }
     {
@@ -116,14 +118,12 @@ impl Phase {
         ensures { result ≡ value_of self }
     {
         match self {
-            Phase::Idle => 0,
-            Phase::Ident(_, value) => value,
-            Phase::ReadTo(_, value) => value,
-            Phase::WriteTo(_, value) => value,
-            Phase::Reading(_, _) => 0,
-            Phase::Writing(_, value, _, _) => value,
-            Phase::Command(_, value) => value,
-            Phase::Dead => 0,
+            Phase::Ident(_, value)
+            | Phase::ReadTo(_, value)
+            | Phase::WriteTo(_, value)
+            | Phase::Writing(_, value, _, _)
+            | Phase::Command(_, value) => value,
+            Phase::Idle | Phase::Reading(_, _) | Phase::Dead => 0,
         }
     }
 
@@ -132,56 +132,33 @@ impl Phase {
         ensures { result ≡ position_of self }
     {
         match self {
-            Phase::Idle => 0,
-            Phase::Ident(_, _) => 0,
-            Phase::ReadTo(_, _) => 0,
-            Phase::WriteTo(_, _) => 0,
             Phase::Reading(_, position) => position,
             Phase::Writing(_, _, _, position) => position,
-            Phase::Command(_, _) => 0,
-            Phase::Dead => 0,
+            _ => 0,
         }
     }
 }
 
-// What a coded byte reads to.
-#[derive(Clone, Copy)]
-pub enum PhaseRead {
-    Phased(Phase),
-    NoPhase,
-}
-
-#[derive(Clone, Copy)]
-pub enum LineRead {
-    Data(Line),
-    NoLine,
-}
-
-// What the frame's bytes read to.
-#[derive(Clone, Copy)]
-pub enum FrameRead {
-    Frame(Levels, Phase, Line),
-    NoFrame,
-}
-
 // Of a record that a buffer holds, the frame's bytes alone. Each is stored by itself: so the next reading loads what was
 // stored, byte by byte.
-pub fn write_frame(levels: Levels, phase: Phase, line: Line, out: &mut [u8]) -> Outcome
+#[tactic(auto, unfolding(ground::specs::Outcomes::written_as, crate::specs::Frame::frame_over))]
+pub fn write_frame(frame: Frame, out: &mut [u8]) -> Result<usize, Refusal>
     ensures { (result ≡ written_as 8 out.old)
-        × (out.new ≡ frame_over levels phase line out.old) }
+        × (out.new ≡ frame_over frame.levels frame.phase frame.line out.old) }
 {
     let short = out.len() < ground::RECORD_LENGTH;
     if short {
-        return Outcome::Refused(Refusal::OutputShort);
+        return Err(Refusal::OutputShort);
     }
+    let phase = frame.phase;
     let value = phase.value();
-    out[FRAME_AT] = levels.number();
+    out[FRAME_AT] = u8::from(frame.levels);
     out[PHASE_AT] = phase.number();
     out[COUNT_AT] = phase.unfinished();
     out[LOW_AT] = (value % 256) as u8;
     out[HIGH_AT] = (value / 256) as u8;
     out[ADDRESS_AT] = phase.address();
     out[POSITION_AT] = phase.position();
-    out[DATA_AT] = line.number();
-    Outcome::Written(8)
+    out[DATA_AT] = u8::from(frame.line);
+    Ok(8)
 }

@@ -34,25 +34,19 @@ fn asserted_by(source: IrqSource, timer: Timer) -> bool
 }
 
 // Whether the IRQ pin is pulled low; otherwise it floats.
+#[tactic(auto, unfolding(crate::specs::Pins::irq_low))]
 pub fn irq_low(settings: Settings) -> bool
     ensures { result ≡ irq_low settings }
 {
-    let irq = settings.irq;
-    if irq.on {
-        let source = irq.source;
-        return asserted_by(source, settings.counters.timer);
-    }
-    false
+    settings.irq.on && asserted_by(settings.irq.source, settings.counters.timer)
 }
 
 // Whether there is a tone.
+#[tactic(auto, unfolding(crate::specs::Pins::sounding))]
 fn is_sounding(settings: Settings) -> bool
     ensures { result ≡ sounding settings }
 {
-    if ticks::running(settings) {
-        return settings.tone.on;
-    }
-    false
+    ticks::running(settings) && settings.tone.on
 }
 
 // The tone's level by its phase.
@@ -66,41 +60,31 @@ fn wave_of(pitch: Pitch, phase: u8) -> bool
 }
 
 // Whether the BZ pin is high.
+#[tactic(auto, unfolding(crate::specs::Pins::bz_high))]
 pub fn bz_high(settings: Settings) -> bool
     ensures { result ≡ bz_high settings }
 {
-    if is_sounding(settings) {
-        let tone = settings.tone;
-        let pitch = tone.pitch;
-        return wave_of(pitch, settings.counters.toner.count);
-    }
-    false
+    is_sounding(settings) && wave_of(settings.tone.pitch, settings.counters.toner.count)
 }
 
 // Whether BZ's partner is high: the opposite of BZ while there is a tone.
+#[tactic(auto, unfolding(crate::specs::Pins::partner_high, crate::specs::Pins::bz_high))]
 pub fn partner_high(settings: Settings) -> bool
     ensures { result ≡ partner_high settings }
 {
-    if is_sounding(settings) {
-        return !bz_high(settings);
-    }
-    false
+    is_sounding(settings) && !bz_high(settings)
 }
 
 // The cells of an address that would show with all four bits set: whatever stands there, the cells that show are its
 // bits under this mask.
+#[tactic(auto, unfolding(crate::specs::Pins::shown_nibble, crate::specs::Pins::shows))]
 pub fn shown_mask(settings: Settings) -> u8
     ensures { result ≡ shown_nibble settings 15 }
 {
-    if !ticks::running(settings) {
+    if !ticks::running(settings) || !settings.lcd.on {
         return 0;
     }
-    let lcd = settings.lcd;
-    if !lcd.on {
-        return 0;
-    }
-    let commons = lcd.commons;
-    match commons {
+    match settings.lcd.commons {
         Commons::Two => 3,
         Commons::Three => 7,
         Commons::Four => 15,
@@ -111,28 +95,19 @@ pub fn shown_mask(settings: Settings) -> u8
 fn under_mask(memory: [u8; ADDRESSES], mask: u8) -> [u8; ADDRESSES]
     ensures { result ≡ map (λ n. bit_and n mask) memory }
 {
-    let mut cells = memory;
-    let mut i: usize = 0;
-    while i < ADDRESSES {
-        cells[i] = memory[i] & mask;
-        i += 1;
-    }
-    cells
+    memory.map(|nibble| nibble & mask)
 }
 
 // What the pins show.
+#[tactic(auto, unfolding(crate::specs::Pins::pins_shown), using(crate::proofs::PinsLaws::shown_under_mask))]
 pub fn pins_of(chip: Chip) -> Pins
     ensures { result ≡ pins_shown chip }
 {
-    let settings = chip.settings;
-    let port = chip.port;
-    let memory = port.memory;
-    let line = port.line;
     Pins {
-        irq: irq_low(settings),
-        bz: bz_high(settings),
-        partner: partner_high(settings),
-        line,
-        cells: under_mask(memory, shown_mask(settings)),
+        irq: irq_low(chip.settings),
+        bz: bz_high(chip.settings),
+        partner: partner_high(chip.settings),
+        line: chip.port.line,
+        cells: under_mask(chip.port.memory, shown_mask(chip.settings)),
     }
 }

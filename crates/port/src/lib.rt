@@ -9,7 +9,8 @@ use ground::ADDRESSES;
 use lines::Levels;
 use phases::{Line, Phase};
 
-// What samples move: the memory of 32 nibbles, the levels last seen, the frame, and what the chip does to DATA.
+// What samples move: the memory of 32 nibbles, the levels last seen, the frame, and what the chip does to DATA. The last three are no
+// `Frame` here: the theorems of stopped writes (`StoppedWrites`, `WriteFrames`) name them as a port's own.
 #[derive(Clone, Copy)]
 pub struct Port {
     pub memory: [u8; ADDRESSES],
@@ -29,68 +30,46 @@ pub struct Moved {
 fn nibble_at(memory: [u8; ADDRESSES], at: u8) -> u8
     ensures { result ≡ get_or memory at 0 }
 {
-    let i = at as usize;
-    if i < ADDRESSES {
-        return memory[i];
-    }
-    0
+    memory.get(at as usize).copied().unwrap_or(0)
 }
 
 // The memory with a nibble stored; no address, no change.
+#[tactic(auto, using(std::proofs::lemmas::List::set_past))]
 fn stored(memory: [u8; ADDRESSES], at: u8, nibble: u8) -> [u8; ADDRESSES]
     ensures { result ≡ set memory at nibble }
 {
     let mut next = memory;
     let i = at as usize;
-    if i < ADDRESSES {
+    // Not by `get_mut`: once its borrow is over a proof knows no element (tried, and the proof did not close).
+    if i < next.len() {
         next[i] = nibble;
-        return next;
     }
     next
 }
 
 impl Port {
     // The port after a sample of these levels. Of all that a sample can come to only a complete nibble changes the memory.
+    #[tactic(auto, unfolding(crate::specs::Port::moved, crate::specs::Port::framed_by, crate::specs::Port::memory_after))]
     pub fn moved(self, levels: Levels) -> Moved
         ensures { result ≡ moved self levels }
     {
-        let memory = self.memory;
-        let before = self.levels;
-        let phase = self.phase;
-        let line = self.line;
-        let nibble = nibble_at(memory, phase.address());
-        let framed = frames::frame_after(lines::edge_of(before, levels), nibble, phase, line);
-        let upshot = framed.upshot;
-        let next = framed.phase;
-        let driven = framed.line;
-        match upshot {
-            Upshot::Answered(_) => Moved {
-                port: Port {
-                    levels,
-                    phase: next,
-                    line: driven,
-                    ..self
-                },
-                upshot,
+        let edge = lines::edge_of(self.levels, levels);
+        let nibble = nibble_at(self.memory, self.phase.address());
+        let framed = frames::frame_after(edge, nibble, self.phase, self.line);
+        // No function of its own gives the memory: it would copy the array for every sample (tried; it misses the speed bar, a
+        // sample takes three times as long).
+        let memory = match framed.upshot {
+            Upshot::Nibble(at, nibble) => stored(self.memory, at, nibble),
+            Upshot::Answered(_) | Upshot::Code(_) => self.memory,
+        };
+        Moved {
+            port: Port {
+                memory,
+                levels,
+                phase: framed.phase,
+                line: framed.line,
             },
-            Upshot::Nibble(at, value) => Moved {
-                port: Port {
-                    memory: stored(memory, at, value),
-                    levels,
-                    phase: next,
-                    line: driven,
-                },
-                upshot,
-            },
-            Upshot::Code(_) => Moved {
-                port: Port {
-                    levels,
-                    phase: next,
-                    line: driven,
-                    ..self
-                },
-                upshot,
-            },
+            upshot: framed.upshot,
         }
     }
 }

@@ -1,5 +1,5 @@
 -- RULES "Commands", its power-on, of the whole chip; and its refusals in "Driver streams". Assumes nothing.
-use Rattle.std.specs.Prelude.{ℕ, not, List, [], ◌∷◌, eqb, ltb, length, replicate}
+use Rattle.std.specs.Prelude.{ℕ, not, List, [], ◌∷◌, eqb, ltb, length, replicate, Result, Ok, Err}
 use Rattle.ground.specs.Sizes.{addresses}
 use Rattle.ground.specs.declared.Refusal.{Refusal}
 use Rattle.ground.specs.declared.Refusal.TheVariants.{NibbleAbove, MemoryCount, UnknownPart}
@@ -14,18 +14,15 @@ use Rattle.phases.specs.declared.Phase.TheVariants.{Idle}
 use Rattle.phases.specs.declared.Line.TheVariants.{Released}
 use Rattle.lines.specs.Samples.{levels}
 use Rattle.chip.specs.declared.Chip.{Chip}
-use Rattle.power.specs.declared.Start.{Start}
-use Rattle.power.specs.declared.Start.TheVariants.{On, Refused}
-use Rattle.power.specs.declared.PoweredOn.{PoweredOn}
 
 -- The number and the place of an answer: 0 where the chip is on, else the refusal's.
-abbrev pub start_number : Start → ℕ
-start_number On = 0
-start_number (Refused refusal) = refusal_number refusal
+abbrev pub start_number : Result Chip Refusal → ℕ
+start_number (Ok chip) = 0
+start_number (Err refusal) = refusal_number refusal
 
-abbrev pub start_place : Start → ℕ
-start_place On = 0
-start_place (Refused refusal) = refusal_place refusal
+abbrev pub start_place : Result Chip Refusal → ℕ
+start_place (Ok chip) = 0
+start_place (Err refusal) = refusal_place refusal
 
 -- The caller's memory, the part's settings of power-on, all lines high, no frame, and DATA released.
 abbrev pub fresh_chip : Part → List ℕ → Chip
@@ -35,12 +32,14 @@ fresh_chip part memory =
       settings = power_on part;
     }
 
--- An HT with an empty memory: RULES "The listing" begins so, and a refusal hands out such a chip.
+-- An HT with an empty memory: RULES "The listing" begins so.
 unfoldable pub empty_chip : Chip
 empty_chip = fresh_chip Ht (replicate addresses 0)
 
-abbrev pub not_started : Refusal → PoweredOn
-not_started refusal = record { answer = Refused refusal; chip = empty_chip }
+-- The chip that is on; where power-on was refused, that of an empty memory stands for it.
+abbrev pub chip_on : Result Chip Refusal → Chip
+chip_on (Ok chip) = chip
+chip_on (Err refusal) = empty_chip
 
 -- Its refusals, in order: 43 where there is no such part, 29 where the memory has not a value for each address, and 23 at the lowest
 -- value above 15.
@@ -50,5 +49,5 @@ power_on_refusals part memory =
     ∷ refused_if (not (eqb (length memory) addresses)) MemoryCount
     ∷ refused_if (somewhere (ltb 15) memory) (NibbleAbove (lowest (ltb 15) memory)) ∷ []
 
-unfoldable pub powered_on : ℕ → List ℕ → PoweredOn
-powered_on part memory = ladder not_started (power_on_refusals part memory) (record { answer = On; chip = fresh_chip (part_of part) memory })
+unfoldable pub powered_on : ℕ → List ℕ → Result Chip Refusal
+powered_on part memory = ladder Err (power_on_refusals part memory) (Ok (fresh_chip (part_of part) memory))

@@ -2,6 +2,7 @@
 #![tactic(auto)]
 
 ghost use Rattle.std.specs.Prelude.{◌≡◌, length};
+ghost use Rattle.ground.specs.Ranges.{up_to};
 ghost use Rattle.ground.specs.Sizes.{record_length};
 ghost use Rattle.settings.specs.Bytes.{scan_fits, settings_in_range, settings_of, selections_read, settings_read};
 
@@ -9,10 +10,7 @@ mod codes; // codes.rt: coded bytes, each read to a case
 
 use clock::{BaseCounter, Counters, Divider, Prescaler, Scan, Timer, Toner, Watchdog};
 use ground::{Part, RECORD_LENGTH};
-use settings::{
-    Base, BiasRead, CommonsRead, Irq, IrqSourceRead, Lcd, PitchRead, SETTINGS_AT, SelectionsRead,
-    Settings, SettingsRead, SourceRead, System, Tone, offsets,
-};
+use settings::{Base, Irq, Lcd, SETTINGS_AT, Selections, Settings, System, Tone, offsets};
 
 // How many bytes the settings have in a record.
 const LENGTH: usize = RECORD_LENGTH - SETTINGS_AT;
@@ -46,6 +44,7 @@ const MAXIMA: [u8; LENGTH] = [
 ];
 
 // Whether the common that is scanned is one of those in force, and the scan's counter one of the part's.
+#[tactic(auto, unfolding(settings::specs::Bytes::scan_fits))]
 fn scan_fits(part: u8, commons: u8, counter: u8, common: u8) -> bool
     ensures { result ≡ scan_fits part commons counter common }
 {
@@ -58,6 +57,16 @@ fn scan_fits(part: u8, commons: u8, counter: u8, common: u8) -> bool
     (counter as u32) < clock::HT_SCAN_SIZE
 }
 
+// Whether each byte is at most its maximum.
+fn within(bytes: &[u8], most: &[u8]) -> bool
+    ensures { result ≡ up_to bytes.now most.now }
+{
+    bytes
+        .iter()
+        .zip(most.iter())
+        .all(|(byte, most)| *byte <= *most)
+}
+
 // Whether each of a record's bytes 40 to 63 is in range. Apart from `settings_from`, which is then small enough to be put into its
 // callers.
 pub fn in_range(bytes: &[u8]) -> bool
@@ -66,43 +75,44 @@ pub fn in_range(bytes: &[u8]) -> bool
     if bytes.len() != RECORD_LENGTH {
         return false;
     }
-    let most = MAXIMA;
-    let mut i: usize = 0;
-    while i < LENGTH {
-        if most[i] < bytes[SETTINGS_AT + i] {
-            return false;
-        }
-        i += 1;
-    }
-    scan_fits(
-        bytes[offsets::PART],
-        bytes[offsets::COMMONS],
-        bytes[offsets::SCAN],
-        bytes[offsets::COMMON],
-    )
+    within(&bytes[SETTINGS_AT..], &MAXIMA)
+        && scan_fits(
+            bytes[offsets::PART],
+            bytes[offsets::COMMONS],
+            bytes[offsets::SCAN],
+            bytes[offsets::COMMON],
+        )
 }
 
-// The selections, if each is one of its cases.
-fn selections_in(bytes: &[u8]) -> SelectionsRead
+// The selections, if each is one of its cases. That the bytes are a record's is asked of the caller, here and in `counters_of`: an array
+// of 64 would first have to be cut from the slice, whose length is tested all the same.
+#[tactic(auto, using(settings::proofs::BytesLaws::selections_by))]
+fn selections_in(bytes: &[u8]) -> Option<Selections>
     requires { length bytes.now ≡ record_length }
     ensures { result ≡ selections_read bytes.now }
 {
-    let SourceRead::From(source) = codes::source_of(bytes[offsets::SOURCE]) else {
-        return SelectionsRead::NoSelections;
+    let Some(source) = codes::source_of(bytes[offsets::SOURCE]) else {
+        return None;
     };
-    let BiasRead::Biased(bias) = codes::bias_of(bytes[offsets::BIAS]) else {
-        return SelectionsRead::NoSelections;
+    let Some(bias) = codes::bias_of(bytes[offsets::BIAS]) else {
+        return None;
     };
-    let CommonsRead::Has(commons) = codes::commons_of(bytes[offsets::COMMONS]) else {
-        return SelectionsRead::NoSelections;
+    let Some(commons) = codes::commons_of(bytes[offsets::COMMONS]) else {
+        return None;
     };
-    let PitchRead::Sounds(pitch) = codes::pitch_of(bytes[offsets::PITCH]) else {
-        return SelectionsRead::NoSelections;
+    let Some(pitch) = codes::pitch_of(bytes[offsets::PITCH]) else {
+        return None;
     };
-    let IrqSourceRead::Of(irq) = codes::irq_source_of(bytes[offsets::IRQ_SOURCE]) else {
-        return SelectionsRead::NoSelections;
+    let Some(irq) = codes::irq_source_of(bytes[offsets::IRQ_SOURCE]) else {
+        return None;
     };
-    SelectionsRead::Selected(source, bias, commons, pitch, irq)
+    Some(Selections {
+        source,
+        bias,
+        commons,
+        pitch,
+        irq,
+    })
 }
 
 // Bytes 51 to 56.
@@ -134,32 +144,31 @@ fn counters_of(bytes: &[u8]) -> Counters
 
 // The settings that a record's bytes 40 to 57 say, if each selection is one of its cases, with a scan and a part that were read before:
 // with these two in it, it would not be put into its callers.
-pub fn settings_from(bytes: &[u8], scan: Scan, part: Part) -> SettingsRead
+#[tactic(auto, using(settings::proofs::BytesLaws::settings_by))]
+pub fn settings_from(bytes: &[u8], scan: Scan, part: Part) -> Option<Settings>
     ensures { result ≡ settings_read bytes.now scan part }
 {
     if bytes.len() != RECORD_LENGTH {
-        return SettingsRead::NoSettings;
+        return None;
     }
-    let SelectionsRead::Selected(source, bias, commons, pitch, irq) = selections_in(bytes) else {
-        return SettingsRead::NoSettings;
-    };
-    SettingsRead::Set(Settings {
+    let found = selections_in(bytes)?;
+    Some(Settings {
         system: System {
             on: bytes[offsets::SYSTEM] == 1,
-            source,
+            source: found.source,
         },
         lcd: Lcd {
             on: bytes[offsets::LCD] == 1,
-            bias,
-            commons,
+            bias: found.bias,
+            commons: found.commons,
         },
         tone: Tone {
             on: bytes[offsets::TONE] == 1,
-            pitch,
+            pitch: found.pitch,
         },
         irq: Irq {
             on: bytes[offsets::IRQ] == 1,
-            source: irq,
+            source: found.irq,
         },
         base: Base {
             on: bytes[offsets::TIME_BASE] == 1,

@@ -1,20 +1,18 @@
--- Laws of a rehearsal: one sample more with its pause, and the end; and a rehearsal is a write that stops, so demand 3 holds
+-- Laws of a rehearsal: samples with a pause after each; and a rehearsal is a write that stops, so demand 3 holds
 -- of the chip that it returns. Assumes nothing.
+use Rattle.std.specs.Prelude.{fold, Ok, Err}
 use mathlib.Core.Path.{◌≡◌, ◌∙◌, refl, sym, ap, subst}
 use mathlib.Core.List.{List, [], ◌∷◌}
-use Prim.Native.Nat.{ℕ, suc, ◌+◌, ◌-◌, ◌*◌, ◌≤◌, ◌<◌}
+use Prim.Native.Nat.{ℕ, ◌*◌, ◌≤◌}
 use native.Mathlib.Omega.{arith}
 use native.Mathlib.Nat.{suc-mul}
-use native.Mathlib.Numerals.{add-one}
-use lib.ListN.{length, take, drop, get_or, drop_of_length-le}
-use lib.Seq.{drop-cons, take-nil}
+use lib.ListN.{length, take}
 use Rattle.chip.specs.declared.Chip.{Chip}
 use Rattle.chip.specs.Chip.{stepped, advanced}
 use Rattle.ground.specs.declared.Refusal.{Refusal}
 use Rattle.ground.specs.Written.{over}
 use Rattle.ground.proofs.WrittenLaws.{length_over}
-use Rattle.ground.specs.declared.Outcome.{Outcome}
-use Rattle.ground.specs.declared.Outcome.TheVariants.{Written, Refused}
+use Rattle.ground.specs.Outcomes.{Outcome}
 use Rattle.ground.specs.Outcomes.{left, ComesTo}
 use Rattle.driver.specs.Refusals.{write_answer}
 use Rattle.streams.specs.Streams.{write_stream}
@@ -25,25 +23,12 @@ use Rattle.demands.proofs.AcceptedLaws.{written_fits, accepted_enough, buffer_ho
 use Rattle.demands.proofs.Demand3.{demand3}
 use Rattle.demands.proofs.EventsLaws.{after_pause, samples_pause, ticks_pause}
 
-module _ (c : Chip) (ss : List ℕ) (stop pause i : ℕ) where
-  -- one sample more, and its pause
-  pub feed_next : i < stop → i < length ss
-      → after c (paced pause (take (stop - i) (drop i ss)))
-      ≡ after (advanced pause (stepped c (get_or ss i 0)).chip) (paced pause (take (stop - (i + 1)) (drop (i + 1) ss)))
-  feed_next room more =
-      let one : stop - i ≡ suc (stop - (i + 1)) = omega arith in
-      ap (λ (n : ℕ). after c (paced pause (take n (drop i ss)))) one
-      ∙ ap (λ (l : List ℕ). after c (paced pause (take (suc (stop - (i + 1))) l))) (drop-cons ss i 0 more)
-      ∙ after_pause pause (stepped c (get_or ss i 0)).chip (paced pause (take (stop - (i + 1)) (drop (suc i) ss)))
-      ∙ ap (λ (n : ℕ). after (advanced pause (stepped c (get_or ss i 0)).chip) (paced pause (take (stop - (i + 1)) (drop n ss)))) (sym (add-one i))
-
-  -- nothing more is asked for
-  pub feed_stops : stop ≤ i → c ≡ after c (paced pause (take (stop - i) (drop i ss)))
-  feed_stops h = let none : stop - i ≡ 0 = omega arith in rw none
-
-  -- nothing more is there
-  pub feed_ends : length ss ≤ i → c ≡ after c (paced pause (take (stop - i) (drop i ss)))
-  feed_ends h = rw (drop_of_length-le ss h, take-nil)
+-- samples with a pause after each, one after the other
+pub fed_by : (pause : ℕ) (ss : List ℕ) (c : Chip)
+    → fold (λ now s. advanced pause (stepped now s).chip) c ss ≡ after c (paced pause ss)
+fed_by pause [] c = refl
+fed_by pause (s ∷ ss) c =
+    fed_by pause ss (advanced pause (stepped c s).chip) ∙ sym (after_pause pause (stepped c s).chip (paced pause ss))
 
 -- ---- demand 3 of a rehearsal
 
@@ -61,7 +46,7 @@ paced_ticks pause (s ∷ ss) =
 pub rehearsed_survives : Demand3OfRehearsals
 rehearsed_survives c first ns stop pause before r after' count valid did e =
     let fed = take stop (write_stream first ns) in
-    let due : write_answer first ns (length before) ≡ Written count = sym did.answer ∙ e in
+    let due : write_answer first ns (length before) ≡ Ok count = sym did.answer ∙ e in
     let end : after c (paced pause fed) ≡ r.chip =
     sym (did.end ∙ ap (λ (a : Outcome). stopped a c stop pause (write_stream first ns)) due) in
     subst (λ n. Survives c first ns stop n r.chip) (paced_ticks pause fed)
@@ -73,23 +58,23 @@ rehearsed_survives c first ns stop pause before r after' count valid did e =
 module _ (first : ℕ) (ns : List ℕ) {before after' : List ℕ} {r : Outcome}
     (did : ComesTo (write_answer first ns (length before)) (write_stream first ns) before r after') where
   -- a success: the stream stands at the start, and its length is what was reported
-  pub written : {count : ℕ} → r ≡ Written count
-      → (write_answer first ns (length before) ≡ Written count) × (count ≡ length (write_stream first ns))
+  pub written : {count : ℕ} → r ≡ Ok count
+      → (write_answer first ns (length before) ≡ Ok count) × (count ≡ length (write_stream first ns))
       × (length (write_stream first ns) ≤ length before) × (after' ≡ over before 0 (write_stream first ns))
   written {count} e =
-      let due : write_answer first ns (length before) ≡ Written count = sym did.answer ∙ e in
+      let due : write_answer first ns (length before) ≡ Ok count = sym did.answer ∙ e in
       let fits = written_fits first ns (length before) count due in
       (due, fits.0, fits.1, did.bytes ∙ ap (λ (a : Outcome). left a (write_stream first ns) before) due)
 
-  pub count_fits : {count : ℕ} → r ≡ Written count → count ≤ length after'
+  pub count_fits : {count : ℕ} → r ≡ Ok count → count ≤ length after'
   count_fits {count} e =
       let w = written e in
       let same : length after' ≡ length before = ap length w.3 ∙ length_over before (write_stream first ns) 0 (omega (arith, w.2)) in
       omega (arith, w.1, w.2)
 
-  pub rehearses : {c end : Chip} {stop pause count : ℕ} → r ≡ Written count
+  pub rehearses : {c end : Chip} {stop pause count : ℕ} → r ≡ Ok count
       → end ≡ after c (paced pause (take stop (take count after')))
-      → Rehearses c first ns stop pause before (record { answer = Written count; chip = end }) after'
+      → Rehearses c first ns stop pause before (record { answer = Ok count; chip = end }) after'
   rehearses {c} {end} {stop} {pause} {count} e fed =
       let w = written e in
       record {
@@ -104,7 +89,7 @@ module _ (first : ℕ) (ns : List ℕ) {before after' : List ℕ} {r : Outcome}
             ∙ ap (λ (a : Outcome). stopped a c stop pause (write_stream first ns)) (sym w.0);
       }
 
-  pub refuses : {c : Chip} {stop pause : ℕ} {why : Refusal} → r ≡ Refused why
+  pub refuses : {c : Chip} {stop pause : ℕ} {why : Refusal} → r ≡ Err why
       → Rehearses c first ns stop pause before (record { answer = r; chip = c }) after'
   refuses {c} {stop} {pause} {why} e =
       record {

@@ -1,9 +1,8 @@
 -- A rehearsal of demand 3 in code: the driver's stream, stopped, with a pause of ticks after each sample. Assumes nothing.
-use Rattle.std.specs.Prelude.{◌≡◌, List, [], ◌∷◌, ◌++◌, ℕ, ◌*◌, length, take, replicate}
+use Rattle.std.specs.Prelude.{◌≡◌, List, [], ◌∷◌, ◌++◌, ℕ, ◌*◌, length, take, replicate, Ok, Err}
 use Rattle.chip.specs.declared.Chip.{Chip}
 use Rattle.chip.specs.Valid.{Valid}
-use Rattle.ground.specs.declared.Outcome.{Outcome}
-use Rattle.ground.specs.declared.Outcome.TheVariants.{Written, Refused}
+use Rattle.ground.specs.Outcomes.{Outcome}
 use Rattle.ground.specs.Outcomes.{left}
 use Rattle.driver.specs.Refusals.{write_answer}
 use Rattle.streams.specs.Streams.{write_stream}
@@ -18,8 +17,8 @@ paced pause (s ∷ ss) = sample s ∷ replicate pause tick ++ paced pause ss
 
 -- Where the write was stopped: after its first samples; a refused one never began.
 abbrev pub stopped : Outcome → Chip → ℕ → ℕ → List ℕ → Chip
-stopped (Written count) chip stop pause stream = after chip (paced pause (take stop stream))
-stopped (Refused why) chip stop pause stream = chip
+stopped (Ok count) chip stop pause stream = after chip (paced pause (take stop stream))
+stopped (Err why) chip stop pause stream = chip
 
 -- The driver's answer and its bytes, and the chip at the stop.
 pub record Rehearses (chip : Chip) (first : ℕ) (nibbles : List ℕ) (stop pause : ℕ) (before : List ℕ)
@@ -33,5 +32,5 @@ pub record Rehearses (chip : Chip) (first : ℕ) (nibbles : List ℕ) (stop paus
 abbrev pub Demand3OfRehearsals : Type 0
 Demand3OfRehearsals =
     (chip : Chip) (first : ℕ) (nibbles : List ℕ) (stop pause : ℕ) (before : List ℕ) (r : Rehearsed) (after' : List ℕ) (count : ℕ)
-    → Valid chip → Rehearses chip first nibbles stop pause before r after' → r.answer ≡ Written count
+    → Valid chip → Rehearses chip first nibbles stop pause before r after' → r.answer ≡ Ok count
     → Survives chip first nibbles stop (length (take stop (write_stream first nibbles)) * pause) r.chip

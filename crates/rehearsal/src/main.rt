@@ -8,13 +8,13 @@ ghost use Rattle.demands.specs.Events.{after};
 ghost use Rattle.rehearsal.specs.Rehearsal.{paced, Rehearses};
 
 use chip::Chip;
-use ground::{ADDRESSES, Outcome};
+use ground::Refusal;
 use std::io;
 
 // What a rehearsal comes to: what the driver answered, and the chip where the write was stopped.
 #[derive(Clone, Copy)]
 struct Rehearsed {
-    answer: Outcome,
+    answer: Result<usize, Refusal>,
     chip: Chip,
 }
 
@@ -22,14 +22,10 @@ struct Rehearsed {
 fn fed(chip: Chip, samples: &[u8], stop: usize, pause: u16) -> Chip
     ensures { result ≡ after chip (paced pause (take stop samples.now)) }
 {
-    let mut now = chip;
-    let mut i: usize = 0;
-    while i < stop && i < samples.len() {
-        let stepped = now.step(samples[i]);
-        now = stepped.chip.advance(pause);
-        i += 1;
-    }
-    now
+    samples
+        .iter()
+        .take(stop)
+        .fold(chip, |now, sample| now.step(*sample).chip.advance(pause))
 }
 
 // Rehearses a write that stops: has the driver write its stream into the room lent, and feeds the chip its first `stop`
@@ -46,46 +42,26 @@ fn rehearse(
 {
     let answer = driver::write(first, nibbles, room);
     match answer {
-        Outcome::Written(count) => {
+        Ok(count) => {
             let chip = fed(chip, &room[..count], stop, pause);
             Rehearsed { answer, chip }
         }
-        Outcome::Refused(_) => Rehearsed { answer, chip },
+        Err(_) => Rehearsed { answer, chip },
     }
 }
 
-// A nibble as a hex digit.
-fn digit(nibble: u8) -> u8 {
-    if nibble < 10 {
-        return 48 + nibble;
-    }
-    87 + nibble % 16
-}
-
-// Writes a line.
-fn put(rt: &impl Print, line: [u8; 33]) -> io::Result<()> {
-    rt.write_all(&line)
-}
-
-// Writes the memory of a chip.
+// Writes the memory of a chip as a line of hex digits.
 fn show(rt: &impl Print, chip: Chip) -> io::Result<()> {
-    let port = chip.port;
-    let memory = port.memory;
-    let mut line = [10u8; 33];
-    let mut i: usize = 0;
-    while i < ADDRESSES {
-        line[i] = digit(memory[i]);
-        i += 1;
+    for nibble in &chip.port.memory {
+        print!(rt; "{nibble:x}")?;
     }
-    put(rt, line)
+    rt.write_all(b"\n")
 }
 
 fn main(rt: HostRuntime) -> io::Result<()> {
-    let zeros = [0u8; ADDRESSES];
-    let start = power::power_on(0, &zeros);
     let nibbles = [1u8, 2, 3, 4, 5];
-    let mut room = [0u8; 277];
-    let stopped = rehearse(start.chip, 3, &nibbles, 40, 7, &mut room);
+    let mut room = [0u8; 277]; // of a fixed length, as a meter lends it: the driver asks for no memory of its own
+    let stopped = rehearse(power::empty(), 3, &nibbles, 40, 7, &mut room);
     show(&rt, stopped.chip)?;
     let resent = rehearse(stopped.chip, 3, &nibbles, 277, 0, &mut room);
     show(&rt, resent.chip)

@@ -1,5 +1,6 @@
 -- Laws of the settings' bytes. Right ones say valid settings, which are written as the same bytes; valid settings are written
 -- as right ones. Assumes nothing.
+use Rattle.std.specs.Prelude.{Option, Some, None}
 use mathlib.Core.Path.{◌≡◌, ◌∙◌, refl, sym, ap, ap₂}
 use mathlib.Core.Bool.{Bool, true, false, cond, ◌&&◌, and-true}
 use mathlib.Core.List.{List, ◌++◌}
@@ -19,10 +20,10 @@ use Rattle.ground.specs.declared.Part.{Part}
 use Rattle.ground.specs.declared.Part.TheVariants.{Ht, Gn}
 use Rattle.ground.specs.Written.{byte, over}
 use Rattle.ground.proofs.BitsLaws.{bit_number_small, bit_number_back, bit_number_again}
-use Rattle.ground.proofs.ChoiceLaws.{and_left, and_right, and_both, each_of_3}
-use Rattle.ground.proofs.CodesLaws.{case_of_again}
+use Rattle.ground.proofs.ChoiceLaws.{none_chosen, some_chosen, and_left, and_right, and_both, each_of_3}
+use Rattle.ground.proofs.CodesLaws.{case_of_again, read_of}
 use Rattle.ground.proofs.PartsLaws.{part_back, part_small}
-use Rattle.ground.proofs.RangesLaws.{up_to_at, up_to_passes, up_to_fails, up_to_ends}
+use Rattle.ground.proofs.RangesLaws.{up_to_at}
 use Rattle.ground.proofs.WrittenLaws.{gather, over_over}
 use Rattle.clock.specs.Numbers.{source_number}
 use Rattle.clock.specs.Sizes.{scan_size}
@@ -39,41 +40,18 @@ use Rattle.settings.specs.declared.Pitch.{Pitch}
 use Rattle.settings.specs.declared.Pitch.TheVariants.{FourK}
 use Rattle.settings.specs.declared.IrqSource.{IrqSource}
 use Rattle.settings.specs.declared.IrqSource.TheVariants.{Neither}
+use Rattle.settings.specs.declared.Selections.{Selections}
 use Rattle.settings.specs.declared.Settings.{Settings}
-use Rattle.settings.specs.declared.SelectionsRead.TheVariants.{Selected, NoSelections}
-use Rattle.settings.specs.declared.SettingsRead.TheVariants.{Set, NoSettings}
-use Rattle.settings.specs.Selections.{sources, biases, commonses, pitches, irq_sources}
-use Rattle.settings.specs.Bytes.{settings_at, counters_at, settings_bytes, tick_bytes, counters_over, settings_fields, switch_fields, tick_fields, settings_maxima, scan_fits, selections_known, scan_right, settings_right, settings_of, selections_read, settings_read}
+use Rattle.settings.specs.Selections.{sources, source_read, biases, bias_read, commonses, commons_read, pitches, pitch_read, irq_sources, irq_source_read}
+use Rattle.settings.specs.Bytes.{selected, settings_at, counters_at, settings_bytes, tick_bytes, counters_over, settings_fields, switch_fields, tick_fields, settings_maxima, scan_fits, selections_known, scan_right, settings_right, settings_of, selections_read, settings_read}
 use Rattle.settings.specs.Fields.{all_known, read_from}
-use Rattle.settings.specs.Settings.{power_on}
+use Rattle.settings.specs.Settings.{power_on, part_to, scan_to}
 use Rattle.settings.specs.Valid.{SettingsValid}
 use Rattle.settings.proofs.FieldsLaws.{all_known_past, all_known_both, read_from_past}
-use Rattle.settings.proofs.SelectionsLaws.{StandsFor, source_back, source_small, bias_back, bias_small, commons_back, commons_small, pitch_back, pitch_small, irq_source_back, irq_source_small}
+use Rattle.settings.proofs.SelectionsLaws.{source_back, source_small, bias_back, bias_small, commons_back, commons_small, pitch_back, pitch_small, irq_source_back, irq_source_small}
 
-pub and_next : (a rest : Bool) → a ≡ true → (a && rest) ≡ rest
+and_next : (a rest : Bool) → a ≡ true → (a && rest) ≡ rest
 and_next a rest h = rw h
-
-pub and_fails : (a rest : Bool) → a ≡ false → (a && rest) ≡ false
-and_fails a rest h = rw h
-
--- ---- ranges, byte by byte
-
-module _ (b : List ℕ) (long : length b ≡ record_length) (i : ℕ) where
-  abbrev from : ℕ → Bool
-  from k = up_to (drop k (drop settings_at b)) (drop k settings_maxima)
-
-  pub range_passes : i < 24 → byte b (settings_at + i) ≤ get_or settings_maxima i 0 → from i ≡ from (i + 1)
-  range_passes more le =
-      up_to_passes (drop settings_at b) settings_maxima i (omega (arith, long, length-drop settings_at b)) more
-      (rw (get_or-drop settings_at b i 0) le)
-
-  pub range_fails : i < 24 → get_or settings_maxima i 0 < byte b (settings_at + i) → from i ≡ false
-  range_fails more lt =
-      up_to_fails (drop settings_at b) settings_maxima i (omega (arith, long, length-drop settings_at b)) more
-      (rw (get_or-drop settings_at b i 0) lt)
-
-  pub range_ends : 24 ≤ i → from i ≡ true
-  range_ends all = up_to_ends (drop settings_at b) settings_maxima i (omega (arith, long, length-drop settings_at b))
 
 -- ---- what right bytes have
 
@@ -247,82 +225,81 @@ all_known_lem b = all_known_both b tick_fields settings_at switch_fields ∙ ap 
 
 -- ---- what reading answers, by the tests in turn
 
-pub selections_none : (b : List ℕ) → selections_known b ≡ false → NoSelections ≡ selections_read b
-unfolding selections_read
-selections_none b e = rw e
+-- the selections of five readings: none where one of the readings found none
+abbrev pub together : Option Source → Option Bias → Option Commons → Option Pitch → Option IrqSource → Option Selections
+together (Some source) (Some bias) (Some commons) (Some pitch) (Some irq) = Some (selected source bias commons pitch irq)
+together (Some source) (Some bias) (Some commons) (Some pitch) None = None
+together (Some source) (Some bias) (Some commons) None irq = None
+together (Some source) (Some bias) None pitch irq = None
+together (Some source) None commons pitch irq = None
+together None bias commons pitch irq = None
 
-chosen : {A : Type 0} (t : Bool) (x y z : A) → t ≡ true → x ≡ y → x ≡ cond t y z
-chosen t x y z h e = rw h e
+all_chosen : (s b c p i : Bool) (source : Source) (bias : Bias) (commons : Commons) (pitch : Pitch) (irq : IrqSource)
+    → together (cond s (Some source) None) (cond b (Some bias) None) (cond c (Some commons) None) (cond p (Some pitch) None) (cond i (Some irq) None)
+    ≡ cond (s && (b && (c && (p && (i && true))))) (Some (selected source bias commons pitch irq)) None
+all_chosen true true true true true source bias commons pitch irq = refl
+all_chosen true true true true false source bias commons pitch irq = refl
+all_chosen true true true false i source bias commons pitch irq = refl
+all_chosen true true false p i source bias commons pitch irq = refl
+all_chosen true false c p i source bias commons pitch irq = refl
+all_chosen false b c p i source bias commons pitch irq = refl
 
-same : (source source' : Source) (bias bias' : Bias) (commons commons' : Commons) (pitch pitch' : Pitch) (irq irq' : IrqSource)
-    → source' ≡ source → bias' ≡ bias → commons' ≡ commons → pitch' ≡ pitch → irq' ≡ irq
-    → Selected source bias commons pitch irq ≡ Selected source' bias' commons' pitch' irq'
-same source source' bias bias' commons commons' pitch pitch' irq irq' p q r s t = cc
+pub selections_by : (b : List ℕ)
+    → selections_read b
+    ≡ together (source_read (byte b 41)) (bias_read (byte b 43)) (commons_read (byte b 44)) (pitch_read (byte b 46)) (irq_source_read (byte b 50))
+unfolding selections_read source_read bias_read commons_read pitch_read irq_source_read
+selections_by b =
+    sym
+    (rw (
+      read_of source_number Rc (byte b 41) sources,
+      read_of bias_number Half (byte b 43) biases,
+      read_of commons_number Two (byte b 44) commonses,
+      read_of pitch_number FourK (byte b 46) pitches,
+      read_of irq_source_number Neither (byte b 50) irq_sources,
+    )
+    (all_chosen
+    (is_code source_number sources (byte b 41))
+    (is_code bias_number biases (byte b 43))
+    (is_code commons_number commonses (byte b 44))
+    (is_code pitch_number pitches (byte b 46))
+    (is_code irq_source_number irq_sources (byte b 50))
+    _ _ _ _ _))
 
-pub selections_found : (b : List ℕ) (source : Source) (bias : Bias) (commons : Commons) (pitch : Pitch) (irq : IrqSource)
-    → StandsFor source_number sources Rc (byte b 41) source → StandsFor bias_number biases Half (byte b 43) bias
-    → StandsFor commons_number commonses Two (byte b 44) commons → StandsFor pitch_number pitches FourK (byte b 46) pitch
-    → StandsFor irq_source_number irq_sources Neither (byte b 50) irq → Selected source bias commons pitch irq ≡ selections_read b
-unfolding selections_read
-selections_found b source bias commons pitch irq p q r s t =
-    chosen (selections_known b) _ _ _
-    (and_next _ _ p.0 ∙ and_next _ _ q.0 ∙ and_next _ _ r.0 ∙ and_next _ _ s.0 ∙ and_next _ _ t.0)
-    (same _ _ _ _ _ _ _ _ _ _ p.1 q.1 r.1 s.1 t.1)
-
-module _ (known : Bool) (source : Source) (bias : Bias) (commons : Commons) (pitch : Pitch) (irq : IrqSource) where
-  none : cond known (Selected source bias commons pitch irq) NoSelections ≡ NoSelections → known ≡ false
-  none = by known
-    where
-      by : (t : Bool) → cond t (Selected source bias commons pitch irq) NoSelections ≡ NoSelections → t ≡ false
-      by true e = cc
-      by false e = refl
-
-  -- the selections that were found
-  abbrev Found : Source → Bias → Commons → Pitch → IrqSource → Type 0
-  Found source' bias' commons' pitch' irq' =
-      (source ≡ source') × (bias ≡ bias') × (commons ≡ commons') × (pitch ≡ pitch') × (irq ≡ irq')
-
-  found : (source' : Source) (bias' : Bias) (commons' : Commons) (pitch' : Pitch) (irq' : IrqSource)
-      → cond known (Selected source bias commons pitch irq) NoSelections ≡ Selected source' bias' commons' pitch' irq'
-      → (known ≡ true) × Found source' bias' commons' pitch' irq'
-  found source' bias' commons' pitch' irq' = by known
-    where
-      by : (t : Bool) → cond t (Selected source bias commons pitch irq) NoSelections ≡ Selected source' bias' commons' pitch' irq'
-          → (t ≡ true) × Found source' bias' commons' pitch' irq'
-      by true e = (refl, (cc, cc, cc, cc, cc))
-      by false e = (cc, (cc, cc, cc, cc, cc))
-
-pub settings_long : (b : List ℕ) (scan : Scan) (part : Part) → (length b ≡ record_length → ⊥) → NoSettings ≡ settings_read b scan part
-unfolding settings_read
-settings_long b scan part h = rw (ne_eqb _ _ h)
-
-module _ (b : List ℕ) (scan : Scan) (part : Part) (long : length b ≡ record_length) where
-  pub settings_unknown : selections_read b ≡ NoSelections → NoSettings ≡ settings_read b scan part
-  unfolding settings_read selections_read
-  settings_unknown e =
-      let no : selections_known b ≡ false = none _ _ _ _ _ _ e in
-      rw (eq-eqb _ _ long, no)
-
-  pub settings_whole : (source : Source) (bias : Bias) (commons : Commons) (pitch : Pitch) (irq : IrqSource)
-      → selections_read b ≡ Selected source bias commons pitch irq
-      → Set
+-- the settings are made of the selections and the other bytes
+module _ (b : List ℕ) (scan : Scan) (part : Part) where
+  abbrev pub settings_with : Option Selections → Option Settings
+  settings_with None = None
+  settings_with (Some found) =
+      Some
       (record {
-        system = record { on = eqb (byte b 40) 1; source = source };
-        lcd = record { on = eqb (byte b 42) 1; bias = bias; commons = commons };
-        tone = record { on = eqb (byte b 45) 1; pitch = pitch };
-        irq = record { on = eqb (byte b 47) 1; source = irq };
+        system = record { on = eqb (byte b 40) 1; source = found.source };
+        lcd = record { on = eqb (byte b 42) 1; bias = found.bias; commons = found.commons };
+        tone = record { on = eqb (byte b 45) 1; pitch = found.pitch };
+        irq = record { on = eqb (byte b 47) 1; source = found.irq };
         base = record { on = eqb (byte b 49) 1; rate = byte b 48 };
         counters = (settings_of b).counters;
         test = eqb (byte b 57) 1;
         scan = scan;
         part = part;
       })
-      ≡ settings_read b scan part
+
+  pub settings_by : settings_read b scan part ≡ cond (eqb (length b) record_length) (settings_with (selections_read b)) None
   unfolding settings_read selections_read
-  settings_whole source bias commons pitch irq e =
-      let all = found _ _ _ _ _ _ source bias commons pitch irq e in
-      let known : selections_known b ≡ true = all.0 in
-      rw (eq-eqb _ _ long, known) (simp (all.1.0, all.1.1, all.1.2, all.1.3, all.1.4))
+  settings_by = by (eqb (length b) record_length) (selections_known b)
+    where
+      by : (long known : Bool)
+          → cond (long && known) (Some (part_to part (scan_to scan (settings_of b)))) None
+          ≡ cond long
+          (settings_with
+          (cond known
+          (Some
+          (selected (settings_of b).system.source (settings_of b).lcd.bias (settings_of b).lcd.commons (settings_of b).tone.pitch
+          (settings_of b).irq.source))
+          None))
+          None
+      by true true = refl
+      by true false = refl
+      by false _ = refl
 
 -- ---- the settings put over a record: stores, and the bytes from the counters on after them
 

@@ -1,5 +1,5 @@
 -- RULES "State record and simulator", bytes 40 to 63: the settings' bytes in one list, and what follows from it. Assumes nothing.
-use Rattle.std.specs.Prelude.{ℕ, ◌+◌, Bool, cond, ◌&&◌, List, [], ◌∷◌, ◌++◌, map, eqb, ltb, length, drop}
+use Rattle.std.specs.Prelude.{ℕ, ◌+◌, Bool, cond, ◌&&◌, List, [], ◌∷◌, ◌++◌, map, eqb, ltb, length, drop, Option, Some, None}
 use Rattle.ground.specs.Sizes.{addresses, record_length}
 use Rattle.ground.specs.Ranges.{up_to}
 use Rattle.ground.specs.Outcomes.{left_from, written_as}
@@ -12,11 +12,13 @@ use Rattle.clock.specs.Numbers.{source_number}
 use Rattle.clock.specs.declared.Counters.{Counters}
 use Rattle.clock.specs.declared.Scan.{Scan}
 use Rattle.commands.specs.Numbers.{bias_number, commons_number}
+use Rattle.clock.specs.declared.Source.{Source}
+use Rattle.commands.specs.declared.Bias.{Bias}
+use Rattle.commands.specs.declared.Commons.{Commons}
+use Rattle.settings.specs.declared.Pitch.{Pitch}
+use Rattle.settings.specs.declared.IrqSource.{IrqSource}
+use Rattle.settings.specs.declared.Selections.{Selections}
 use Rattle.settings.specs.declared.Settings.{Settings}
-use Rattle.settings.specs.declared.SelectionsRead.{SelectionsRead}
-use Rattle.settings.specs.declared.SelectionsRead.TheVariants.{Selected, NoSelections}
-use Rattle.settings.specs.declared.SettingsRead.{SettingsRead}
-use Rattle.settings.specs.declared.SettingsRead.TheVariants.{Set, NoSettings}
 use Rattle.settings.specs.Numbers.{pitch_number, irq_source_number}
 use Rattle.settings.specs.Settings.{system_to, source_to, lcd_to, display_to, tone_to, pitch_to, irq_to, irq_source_to, time_base_to, rate_to, prescaler_to, toner_to, divider_to, base_to, watchdog_to, flag_to, scan_count_to, common_to, counters_to, test_to, scan_to, part_to, power_on}
 use Rattle.settings.specs.Selections.{sources, biases, commonses, pitches, irq_sources}
@@ -109,6 +111,10 @@ settings_maxima = maxima settings_fields
 unfoldable pub scan_fits : ℕ → ℕ → ℕ → ℕ → Bool
 scan_fits part commons counter common = ltb common commons && ltb counter (scan_size (part_of part))
 
+-- The selections as one value.
+abbrev pub selected : Source → Bias → Commons → Pitch → IrqSource → Selections
+selected source bias commons pitch irq = record { source = source; bias = bias; commons = commons; pitch = pitch; irq = irq }
+
 module _ (b : List ℕ) where
   abbrev pub scan_right : Bool
   scan_right = scan_fits (byte b 58) (byte b 44) (byte b 59) (byte b 60)
@@ -129,17 +135,17 @@ module _ (b : List ℕ) where
   abbrev pub settings_of : Settings
   settings_of = read_from b settings_at settings_fields (power_on Ht)
 
-  unfoldable pub selections_read : SelectionsRead
+  unfoldable pub selections_read : Option Selections
   selections_read =
       cond selections_known
-      (Selected settings_of.system.source settings_of.lcd.bias settings_of.lcd.commons settings_of.tone.pitch
-      settings_of.irq.source)
-      NoSelections
+      (Some (selected settings_of.system.source settings_of.lcd.bias settings_of.lcd.commons settings_of.tone.pitch
+      settings_of.irq.source))
+      None
 
   -- The settings in a list that is as long as a record and has known selections there, with a scan and a part that were read before.
-  unfoldable pub settings_read : Scan → Part → SettingsRead
+  unfoldable pub settings_read : Scan → Part → Option Settings
   settings_read scan part =
-      cond (eqb (length b) record_length && selections_known) (Set (part_to part (scan_to scan settings_of))) NoSettings
+      cond (eqb (length b) record_length && selections_known) (Some (part_to part (scan_to scan settings_of))) None
 
   -- The scan that the bytes say.
   abbrev pub scan_of : Scan

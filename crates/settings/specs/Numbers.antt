@@ -1,9 +1,8 @@
 -- The numbers that RULES "State record and simulator" gives the cases of each enum. Assumes nothing.
-use Rattle.std.specs.Prelude.{ℕ}
+use Rattle.settings.specs.declared.Settings.{Settings}
+use Rattle.std.specs.Prelude.{ℕ, Option, Some, None}
 use Rattle.ground.specs.declared.Refusal.TheVariants.{Malformed}
 use Rattle.ground.specs.Refusals.{refusal_number}
-use Rattle.settings.specs.declared.SettingsRead.{SettingsRead}
-use Rattle.settings.specs.declared.SettingsRead.TheVariants.{Set, NoSettings}
 use Rattle.settings.specs.declared.Pitch.{Pitch}
 use Rattle.settings.specs.declared.Pitch.TheVariants.{FourK, TwoK}
 use Rattle.settings.specs.declared.IrqSource.{IrqSource}
@@ -21,6 +20,6 @@ irq_source_number TimeBase = 1
 irq_source_number Flag = 2
 
 -- What the settings of a record read to: 0 where there are some, else the number of a malformed record.
-abbrev pub settings_number : SettingsRead → ℕ
-settings_number (Set settings) = 0
-settings_number NoSettings = refusal_number Malformed
+abbrev pub settings_number : Option Settings → ℕ
+settings_number (Some settings) = 0
+settings_number None = refusal_number Malformed

@@ -11,7 +11,7 @@ pub mod offsets; // offsets.rt: where each byte stands
 
 use clock::{Counters, Scan, Source};
 use commands::{Bias, Commons};
-use ground::{Outcome, Part, RECORD_LENGTH, Refusal};
+use ground::{Part, RECORD_LENGTH, Refusal};
 
 // Where a record has the settings' bytes, and where among them the counters begin.
 pub const SETTINGS_AT: usize = ground::ADDRESSES + 8;
@@ -81,24 +81,34 @@ pub struct Settings {
     pub part: Part,
 }
 
-impl Pitch {
+// What the coded bytes of the settings say.
+#[derive(Clone, Copy)]
+pub struct Selections {
+    pub source: Source,
+    pub bias: Bias,
+    pub commons: Commons,
+    pub pitch: Pitch,
+    pub irq: IrqSource,
+}
+
+impl From<Pitch> for u8 {
+    ghost from_gives = { λ pitch number. number ≡ pitch_number pitch };
+
     // Its number in the state record: its kHz.
-    fn number(self) -> u8
-        ensures { result ≡ pitch_number self }
-    {
-        match self {
+    fn from(pitch: Pitch) -> u8 {
+        match pitch {
             Pitch::FourK => 4,
             Pitch::TwoK => 2,
         }
     }
 }
 
-impl IrqSource {
+impl From<IrqSource> for u8 {
+    ghost from_gives = { λ source number. number ≡ irq_source_number source };
+
     // Its number in the state record.
-    fn number(self) -> u8
-        ensures { result ≡ irq_source_number self }
-    {
-        match self {
+    fn from(source: IrqSource) -> u8 {
+        match source {
             IrqSource::Neither => 0,
             IrqSource::TimeBase => 1,
             IrqSource::Flag => 2,
@@ -106,60 +116,15 @@ impl IrqSource {
     }
 }
 
-// What the coded byte of each selection reads to.
-#[derive(Clone, Copy)]
-pub enum SourceRead {
-    From(Source),
-    NoSource,
-}
-
-#[derive(Clone, Copy)]
-pub enum BiasRead {
-    Biased(Bias),
-    NoBias,
-}
-
-#[derive(Clone, Copy)]
-pub enum CommonsRead {
-    Has(Commons),
-    NoCommons,
-}
-
-#[derive(Clone, Copy)]
-pub enum PitchRead {
-    Sounds(Pitch),
-    NoPitch,
-}
-
-#[derive(Clone, Copy)]
-pub enum IrqSourceRead {
-    Of(IrqSource),
-    NoIrqSource,
-}
-
-// What they read to together.
-#[derive(Clone, Copy)]
-pub enum SelectionsRead {
-    Selected(Source, Bias, Commons, Pitch, IrqSource),
-    NoSelections,
-}
-
-// What the settings' bytes read to.
-#[derive(Clone, Copy)]
-pub enum SettingsRead {
-    Set(Settings),
-    NoSettings,
-}
-
 // Of a record that a buffer holds, the settings' bytes from the counters on, 51 to 63: for a chip of which no other byte has changed.
-pub fn write_counters(settings: Settings, out: &mut [u8]) -> Outcome
+#[tactic(auto, unfolding(ground::specs::Outcomes::written_as, crate::specs::Bytes::counters_over))]
+pub fn write_counters(settings: Settings, out: &mut [u8]) -> Result<usize, Refusal>
     ensures { (result ≡ written_as 13 out.old) × (out.new ≡ counters_over settings out.old) }
 {
     if out.len() < RECORD_LENGTH {
-        return Outcome::Refused(Refusal::OutputShort);
+        return Err(Refusal::OutputShort);
     }
     let counters = settings.counters;
-    let part = settings.part;
     out[offsets::FLAG] = counters.timer.watchdog.flag as u8;
     out[offsets::P] = counters.prescaler.count;
     out[offsets::Q] = counters.toner.count;
@@ -167,42 +132,34 @@ pub fn write_counters(settings: Settings, out: &mut [u8]) -> Outcome
     out[offsets::B] = counters.timer.base.count;
     out[offsets::W] = counters.timer.watchdog.count;
     out[offsets::TEST] = settings.test as u8;
-    out[offsets::PART] = part.number();
+    out[offsets::PART] = u8::from(settings.part);
     out[offsets::SCAN] = settings.scan.count;
     out[offsets::COMMON] = settings.scan.common;
     out[offsets::SPARE_1] = 0;
     out[offsets::SPARE_2] = 0;
     out[offsets::SPARE_3] = 0;
-    Outcome::Written(13)
+    Ok(13)
 }
 
 // Of a record that a buffer holds, the settings' bytes alone, 40 to 63.
-pub fn write_settings(settings: Settings, out: &mut [u8]) -> Outcome
+#[tactic(auto, unfolding(ground::specs::Outcomes::written_as, crate::specs::Bytes::settings_over))]
+pub fn write_settings(settings: Settings, out: &mut [u8]) -> Result<usize, Refusal>
     ensures { (result ≡ written_as 24 out.old) × (out.new ≡ settings_over settings out.old) }
 {
     if out.len() < RECORD_LENGTH {
-        return Outcome::Refused(Refusal::OutputShort);
+        return Err(Refusal::OutputShort);
     }
-    let system = settings.system;
-    let source = system.source;
-    let lcd = settings.lcd;
-    let bias = lcd.bias;
-    let commons = lcd.commons;
-    let tone = settings.tone;
-    let pitch = tone.pitch;
-    let irq = settings.irq;
-    let irq_source = irq.source;
-    out[offsets::SYSTEM] = system.on as u8;
-    out[offsets::SOURCE] = source.number();
-    out[offsets::LCD] = lcd.on as u8;
-    out[offsets::BIAS] = bias.number();
-    out[offsets::COMMONS] = commons.number();
-    out[offsets::TONE] = tone.on as u8;
-    out[offsets::PITCH] = pitch.number();
-    out[offsets::IRQ] = irq.on as u8;
+    out[offsets::SYSTEM] = settings.system.on as u8;
+    out[offsets::SOURCE] = u8::from(settings.system.source);
+    out[offsets::LCD] = settings.lcd.on as u8;
+    out[offsets::BIAS] = u8::from(settings.lcd.bias);
+    out[offsets::COMMONS] = u8::from(settings.lcd.commons);
+    out[offsets::TONE] = settings.tone.on as u8;
+    out[offsets::PITCH] = u8::from(settings.tone.pitch);
+    out[offsets::IRQ] = settings.irq.on as u8;
     out[offsets::RATE] = settings.base.rate;
     out[offsets::TIME_BASE] = settings.base.on as u8;
-    out[offsets::IRQ_SOURCE] = irq_source.number();
-    write_counters(settings, out);
-    Outcome::Written(24)
+    out[offsets::IRQ_SOURCE] = u8::from(settings.irq.source);
+    write_counters(settings, out)?;
+    Ok(24)
 }

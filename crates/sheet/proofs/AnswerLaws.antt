@@ -1,4 +1,6 @@
 -- No answer to a sample has the number of a refusal. Assumes nothing.
+use Rattle.std.specs.Prelude.{Option, Some, None}
+use Rattle.commands.specs.declared.Command.{Command}
 use mathlib.Core.Path.{◌≡◌}
 use mathlib.Core.Bool.{false}
 use Prim.Native.Nat.{ℕ, ◌*◌, ◌≤◌}
@@ -7,8 +9,6 @@ use lib.Dec.{ltb}
 use lib.ListN.{get_or}
 use Rattle.ground.specs.declared.Part.{Part}
 use Rattle.commands.specs.Commands.{code_meaning}
-use Rattle.commands.specs.declared.Decoded.{Decoded}
-use Rattle.commands.specs.declared.Decoded.TheVariants.{Undefined, Means}
 use Rattle.lines.specs.Samples.{levels, edge}
 use Rattle.phases.specs.Phases.{address}
 use Rattle.answers.specs.Answers.{answer_number}
@@ -20,9 +20,9 @@ use Rattle.chip.specs.declared.Chip.{Chip}
 use Rattle.chip.specs.Chip.{decoded_answer, told, stepped_to, stepped}
 use Rattle.simulator.specs.Simulator.{answer_code}
 
-decoded_low : (decoded : Decoded) (code : ℕ) → answer_number (decoded_answer decoded code) ≤ 11
-decoded_low Undefined code = omega arith
-decoded_low (Means command) code = omega arith
+decoded_low : (decoded : Option Command) (code : ℕ) → answer_number (decoded_answer decoded code) ≤ 11
+decoded_low None code = omega arith
+decoded_low (Some command) code = omega arith
 
 told_low : (part : Part) (upshot : Upshot) → Own upshot → answer_number (told part upshot) ≤ 11
 told_low part (Answered answer) own = own.1

@@ -1,5 +1,6 @@
 -- What a call for a buffer leaves: where a rung of its ladder refuses it, every byte; past the last rung, which asks for room, it has
 -- written the stream. Assumes nothing.
+use Rattle.std.specs.Prelude.{Ok, Err}
 use mathlib.Core.Path.{◌≡◌, ◌∙◌, refl, sym, ap}
 use mathlib.Core.Bool.{false}
 use mathlib.Core.List.{List, [], ◌∷◌}
@@ -9,8 +10,7 @@ use lib.Dec.{ltb}
 use lib.ListN.{length, take, drop}
 use borrow.Author.Tests.{ltb-false}
 use Rattle.ground.specs.declared.Refusal.{Refusal}
-use Rattle.ground.specs.declared.Outcome.{Outcome}
-use Rattle.ground.specs.declared.Outcome.TheVariants.{Written, Refused}
+use Rattle.ground.specs.Outcomes.{Outcome}
 use Rattle.ground.specs.Outcomes.{left, Rung, ladder}
 use Rattle.ground.specs.Written.{over}
 use Rattle.ground.proofs.ChoiceLaws.{by_cases}
@@ -30,7 +30,7 @@ module _ (stream written before : List ℕ) where
   abbrev Left : Outcome → Type 0
   Left due = Small due → BufferLeft stream before (host_code due) (left due written before)
 
-  refusal_leaves : (why : Refusal) → Left (Refused why)
+  refusal_leaves : (why : Refusal) → Left (Err why)
   unfolding host_code
   refusal_leaves why small =
       record {
@@ -38,7 +38,7 @@ module _ (stream written before : List ℕ) where
         success = λ below. let no : ⊥ = omega arith in absurd no;
       }
 
-  success_leaves : (count : ℕ) → count ≡ length written → count ≤ length before → written ≡ stream → Left (Written count)
+  success_leaves : (count : ℕ) → count ≡ length written → count ≤ length before → written ≡ stream → Left (Ok count)
   unfolding host_code
   success_leaves count all fits same small =
       let end : 0 + length written ≡ count = omega (arith, all) in
@@ -60,13 +60,13 @@ module _ (stream written before : List ℕ) where
   Past [] then = then
   Past (rung ∷ rungs) then = rung.holds ≡ false → Past rungs then
 
-  ladder_leaves : (rungs : List Rung) (count : ℕ) → Past rungs (Left (Written count)) → Left (ladder Refused rungs (Written count))
+  ladder_leaves : (rungs : List Rung) (count : ℕ) → Past rungs (Left (Ok count)) → Left (ladder Err rungs (Ok count))
   ladder_leaves [] count past = past
   ladder_leaves (rung ∷ rungs) count past =
       by_cases Left rung.holds (λ holds. refusal_leaves rung.why) (λ fails. ladder_leaves rungs count (past fails))
 
 -- the driver's calls: their last rung is that there is no room for the stream
-fits_leaves : (stream out : List ℕ) → ltb (length out) (length stream) ≡ false → Left stream stream out (Written (length stream))
+fits_leaves : (stream out : List ℕ) → ltb (length out) (length stream) ≡ false → Left stream stream out (Ok (length stream))
 fits_leaves stream out fits = success_leaves stream stream out (length stream) refl (ltb-false (length out) (length stream) fits) refl
 
 pub write_leaves : (first : ℕ) (nibbles out : List ℕ)

@@ -1,4 +1,6 @@
 -- Commands of bytes: the ninth bit makes of a valid record what the command means to the settings that it says. Assumes nothing.
+use Rattle.commands.specs.declared.Command.{Command as Meant}
+use Rattle.std.specs.Prelude.{Option}
 use mathlib.Core.Path.{◌≡◌, ◌∙◌, refl, sym, ap, ap₂, subst}
 use mathlib.Core.Bool.{Bool, true, false, cond, not}
 use mathlib.Core.List.{List}
@@ -19,7 +21,6 @@ use Rattle.phases.specs.declared.Phase.TheVariants.{Command}
 use Rattle.phases.specs.declared.Line.TheVariants.{Released}
 use Rattle.frames.specs.declared.Upshot.{Upshot}
 use Rattle.frames.specs.declared.Upshot.TheVariants.{Code}
-use Rattle.commands.specs.declared.Decoded.{Decoded}
 use Rattle.frames.specs.declared.Framed.{Framed}
 use Rattle.lines.specs.Samples.{levels, edge}
 use Rattle.frames.specs.Frames.{framed, frame, taken, command_taken}
@@ -102,7 +103,7 @@ module _ (b : List ℕ) (sample : ℕ) (valid : record_valid b ≡ true) where
     unfolding chip_of
     told =
         returns_answer ninth.in_range ∙ ap (λ (f : Framed). answer_code (model.told part f.upshot)) frames
-        ∙ ap (λ (d : Decoded). answer_code (decoded_answer d (byte b 35))) (code_meaning_lem (byte b 35) code_small part)
+        ∙ ap (λ (d : Option Meant). answer_code (decoded_answer d (byte b 35))) (code_meaning_lem (byte b 35) code_small part)
         ∙ code_told (byte_meaning part (byte b 35)) (byte b 35)
         ∙ ap (λ (t : Bool). cond t 6 7 + 256 * byte b 35) (sym (defined_same part (byte b 35) code_small))
         ∙ ap (λ (n : ℕ). cond (defined n (byte b 35)) 6 7 + 256 * byte b 35) (part_said b valid)
@@ -112,7 +113,7 @@ module _ (b : List ℕ) (sample : ℕ) (valid : record_valid b ≡ true) where
     obeyed =
         leaves_settings ninth.in_range
         ∙ ap (λ (f : Framed). settings_bytes (settings_after f.upshot (settings_of b))) frames
-        ∙ ap (λ (d : Decoded). settings_bytes (obeyed_as d (settings_of b))) (code_meaning_lem (byte b 35) code_small (settings_of b).part)
+        ∙ ap (λ (d : Option Meant). settings_bytes (obeyed_as d (settings_of b))) (code_meaning_lem (byte b 35) code_small (settings_of b).part)
         ∙ sym (effect_same b (settings_of b) (byte b 35) code_small)
         ∙ ap (λ (l : List ℕ). drop 40 (effect_of (part_number (settings_of b).part) (byte b 35) l)) (sym (bytes_spelt b valid))
         ∙ ap (λ (n : ℕ). drop 40 (effect_of n (byte b 35) b)) (part_said b valid)

@@ -1,5 +1,7 @@
 -- Each code's effect on the bytes is its meaning's effect on the settings: one computed test of them all but the few whose
 -- effect goes by a source. Assumes nothing.
+use Rattle.std.specs.Prelude.{Option, Some, None}
+use Rattle.commands.specs.declared.Command.{Command}
 use mathlib.Core.Path.{◌≡◌, refl}
 use mathlib.Core.Bool.{Bool, cond, not}
 use mathlib.Core.List.{List}
@@ -13,8 +15,6 @@ use Rattle.ground.specs.declared.Part.{Part}
 use Rattle.ground.specs.declared.Part.TheVariants.{Ht, Gn}
 use Rattle.ground.specs.Parts.{part_number}
 use Rattle.ground.specs.Values.{agree}
-use Rattle.commands.specs.declared.Decoded.{Decoded}
-use Rattle.commands.specs.declared.Decoded.TheVariants.{Undefined, Means}
 use Rattle.commands.specs.Commands.{byte_meaning, code_meaning, undefined}
 use Rattle.clock.specs.declared.Source.{Source}
 use Rattle.clock.specs.declared.Source.TheVariants.{Xtal, Rc, Ext}
@@ -99,7 +99,7 @@ module _ (code : ℕ) (small : code < 256) where
       let half : 2 * code / 2 ≡ code = omega arith in
       simp (le-ltb 511 (2 * code) (omega arith), half)
 
-pub code_told : (decoded : Decoded) (code : ℕ) → answer_code (decoded_answer decoded code) ≡ cond (not (undefined decoded)) 6 7 + 256 * code
+pub code_told : (decoded : Option Command) (code : ℕ) → answer_code (decoded_answer decoded code) ≡ cond (not (undefined decoded)) 6 7 + 256 * code
 unfolding answer_code
-code_told Undefined code = add-zero (7 + 256 * code)
-code_told (Means command) code = add-zero (6 + 256 * code)
+code_told None code = add-zero (7 + 256 * code)
+code_told (Some command) code = add-zero (6 + 256 * code)

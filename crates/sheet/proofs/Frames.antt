@@ -1,5 +1,7 @@
 -- What a WR rise and an RD fall make of a valid record, phase by phase: what the frame's rule makes of the phase that byte 33
 -- says is written as the bytes of the statement. Assumes nothing.
+use Rattle.commands.specs.declared.Command.{Command as Meant}
+use Rattle.std.specs.Prelude.{Option, Some, None}
 use mathlib.Core.Path.{◌≡◌, ◌∙◌, refl, sym, ap, subst}
 use mathlib.Core.Bool.{Bool, true, false, cond}
 use mathlib.Core.List.{List}
@@ -14,8 +16,6 @@ use borrow.Author.Tests.{lt-ltb, ltb-true, ltb-false}
 use Rattle.ground.specs.Bits.{bit_at, bit_number}
 use Rattle.ground.proofs.BitsLaws.{bit_number_bit_at}
 use Rattle.ground.proofs.ChoiceLaws.{by_cases}
-use Rattle.commands.specs.declared.Decoded.{Decoded}
-use Rattle.commands.specs.declared.Decoded.TheVariants.{Undefined, Means}
 use Rattle.commands.specs.Commands.{code_meaning}
 use Rattle.phases.specs.declared.Phase.{Phase}
 use Rattle.phases.specs.declared.Phase.TheVariants.{Ident, ReadTo, WriteTo, Reading, Writing, Command, Dead}
@@ -164,17 +164,17 @@ module _ (b : List ℕ) (valid : record_valid b ≡ true) (s : ℕ) (small : s �
     more_in (suc (suc (suc (suc (suc (suc (suc zero))))))) e h = let no : ⊥ = omega arith in absurd no
     more_in (suc (suc (suc (suc (suc (suc (suc (suc code)))))))) e h = let no : ⊥ = omega arith in absurd no
 
-    ninth : (decoded : Decoded) → code_meaning (chip_of b).settings.part (2 * bits b) ≡ decoded
+    ninth : (decoded : Option Meant) → code_meaning (chip_of b).settings.part (2 * bits b) ≡ decoded
         → framed_by (chip_of b).port (levels s) ≡ framed (Command 0 0) Released (Code (bits b)) → Completes b s
     unfolding answer_code memory_after settings_after obeyed_as
-    ninth (Means command) d e = inl (
+    ninth (Some command) d e = inl (
       tells b valid s small (framed (Command 0 0) Released (Code (bits b))) e
-          ∙ ap (λ (m : Decoded). answer_code (decoded_answer m (bits b))) d ∙ add-zero (6 + 256 * bits b),
+          ∙ ap (λ (m : Option Meant). answer_code (decoded_answer m (bits b))) d ∙ add-zero (6 + 256 * bits b),
       port_left b valid s small (framed (Command 0 0) Released (Code (bits b))) e refl,
     )
-    ninth Undefined d e =
+    ninth None d e =
         inr (stores b valid s small (framed (Command 0 0) Released (Code (bits b))) e _ _ _
-        (ap (λ (m : Decoded). answer_code (decoded_answer m (bits b))) d ∙ add-zero (7 + 256 * bits b)) refl (rw d) refl)
+        (ap (λ (m : Option Meant). answer_code (decoded_answer m (bits b))) d ∙ add-zero (7 + 256 * bits b)) refl (rw d) refl)
 
     -- the fourth bit of a nibble, by what storing makes of the memory
     completes : byte b 33 ≡ 5 → byte b 34 ≡ 3 → (memory : List ℕ) → set (take 32 b) (byte b 37) (nibble_of (with_bit b s)) ≡ memory

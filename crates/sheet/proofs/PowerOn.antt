@@ -1,5 +1,6 @@
 -- Power-on in bytes: no rung of its ladder refuses, and what it hands out is written as the bytes that the rules give.
 -- Assumes nothing.
+use Rattle.std.specs.Prelude.{Ok}
 use mathlib.Core.Path.{◌≡◌, refl, sym, ap}
 use mathlib.Core.Bool.{Bool, true, false, not}
 use mathlib.Core.List.{List, [], ◌∷◌}
@@ -12,7 +13,6 @@ use Rattle.ground.specs.declared.Part.TheVariants.{Ht}
 use Rattle.ground.specs.Parts.{part_number, parts, is_part}
 use Rattle.ground.proofs.CodesLaws.{case_of_again}
 use Rattle.ground.specs.Places.{lowest, somewhere}
-use Rattle.ground.specs.declared.Outcome.TheVariants.{Written}
 use Rattle.power.specs.PowerOn.{powered_on}
 use Rattle.state.specs.Record.{record_of, tail_of}
 use Rattle.host.specs.Host.{host_code, power_on_record, power_on_answer, power_on_returns, power_on_bytes}
@@ -40,7 +40,7 @@ module _ (part : ℕ) (memory : List ℕ) (known : not (is_part part) ≡ false)
       (ap (λ (n : ℕ). fresh_record n memory) (case_of_again part_number Ht part parts (known_part (is_part part) known)))
 
   module _ (bytes : List ℕ) (room : 64 ≤ length bytes) where
-    answer : power_on_answer part memory (length bytes) ≡ Written 64
+    answer : power_on_answer part memory (length bytes) ≡ Ok 64
     unfolding power_on_answer
     answer = rw (known, long, clean, le-ltb (length bytes) 64 room)
 

@@ -1,4 +1,6 @@
 -- What each exported call returns and leaves, by what was read. Assumes nothing.
+use Rattle.std.specs.Prelude.{Option, Some, None, Ok, Err}
+use Rattle.commands.specs.declared.Command.{Command}
 use mathlib.Core.Path.{◌≡◌, ◌∙◌, refl, sym, ap, subst}
 use mathlib.Core.Bool.{Bool, true, false, cond}
 use mathlib.Core.List.{List, [], ◌∷◌, ◌++◌, map, append-nil}
@@ -11,9 +13,11 @@ use denote.Enum.Declared.{tag_of}
 use types.Run.{OneOf, miss}
 use Rattle.ground.specs.Bits.{bit_number}
 use Rattle.ground.specs.Sizes.{addresses, record_length}
+use Rattle.ground.specs.declared.Refusal.{Refusal}
+use Rattle.ground.specs.declared.Refusal.TheVariants.{Malformed}
 use Rattle.ground.specs.Outcomes.{written_as}
 use Rattle.ground.specs.Written.{byte, over}
-use Rattle.ground.proofs.ChoiceLaws.{either}
+use Rattle.ground.proofs.ChoiceLaws.{either, none_chosen, some_chosen}
 use Rattle.clock.specs.declared.Counters.{Counters}
 use Rattle.clock.specs.declared.Scan.{Scan}
 use Rattle.settings.specs.declared.Settings.{Settings}
@@ -26,8 +30,6 @@ use Rattle.answers.specs.contracts.Answer.{the_type as answer_type}
 use Rattle.lines.specs.Samples.{levels}
 use Rattle.chip.specs.declared.Chip.{Chip}
 use Rattle.chip.specs.declared.Stepped.{Stepped}
-use Rattle.commands.specs.declared.Decoded.{Decoded}
-use Rattle.commands.specs.declared.Decoded.TheVariants.{Undefined, Means}
 use Rattle.commands.specs.Commands.{code_meaning}
 use Rattle.frames.specs.declared.Upshot.{Upshot}
 use Rattle.frames.specs.declared.Upshot.TheVariants.{Answered, Nibble, Code}
@@ -36,14 +38,9 @@ use Rattle.port.specs.Port.{moved}
 use Rattle.pins.specs.Pins.{pins_shown}
 use Rattle.chip.specs.Valid.{Valid}
 use Rattle.chip.proofs.ValidLaws.{stepped_valid}
-use Rattle.state.specs.declared.Recalled.{Recalled}
-use Rattle.settings.specs.declared.SettingsRead.{SettingsRead}
-use Rattle.settings.specs.declared.SettingsRead.TheVariants.{Set, NoSettings}
-use Rattle.state.specs.declared.Verdict.TheVariants as verdict
 use Rattle.state.specs.Record.{record_valid, record_of, chip_of}
-use Rattle.state.specs.Answers.{nothing_recalled, recalled_from, settings_in, written_over, port_over}
+use Rattle.state.specs.Answers.{recalled_from, settings_in, written_over, port_over}
 use Rattle.settings.specs.Bytes.{counters_over}
-use Rattle.state.proofs.RecordLaws.{settings_none, settings_found}
 use Rattle.phases.specs.Frame.{data_at}
 use Rattle.phases.proofs.FrameLaws.{fits_has, line_again}
 use Rattle.state.proofs.TripLaws.{valid_has}
@@ -53,35 +50,33 @@ use Rattle.simulator.specs.Simulator.{answer_code, pins_code, step_returns, step
 
 -- ---- what was read tells whether the record is valid
 
-module _ (b : List ℕ) (recalled : Recalled) (e : recalled ≡ recalled_from b) where
-  valid : recalled.answer ≡ verdict.Valid → record_valid b ≡ true
+module _ (b : List ℕ) where
+  pub not_said : (why : Refusal) → Err why ≡ recalled_from b → (why ≡ Malformed) × (record_valid b ≡ false)
   unfolding recalled_from
-  valid z = by (record_valid b) (sym (ap (λ (r : Recalled). r.answer) e) ∙ z)
+  not_said why = by (record_valid b)
     where
-      by : (t : Bool) → (cond t (record { answer = verdict.Valid; chip = chip_of b }) nothing_recalled).answer ≡ verdict.Valid → t ≡ true
-      by true z = refl
-      by false z = cc
+      by : (t : Bool) → Err why ≡ cond t (Ok (chip_of b)) (Err Malformed) → (why ≡ Malformed) × (t ≡ false)
+      by true e = (cc, cc)
+      by false e = (cc, refl)
 
-  invalid : recalled.answer ≡ verdict.Invalid → record_valid b ≡ false
+  pub said : (chip : Chip) → Ok chip ≡ recalled_from b → (record_valid b ≡ true) × (chip ≡ chip_of b)
   unfolding recalled_from
-  invalid z = by (record_valid b) (sym (ap (λ (r : Recalled). r.answer) e) ∙ z)
+  said chip = by (record_valid b)
     where
-      by : (t : Bool) → (cond t (record { answer = verdict.Valid; chip = chip_of b }) nothing_recalled).answer ≡ verdict.Invalid → t ≡ false
-      by true z = cc
-      by false z = refl
+      by : (t : Bool) → Ok chip ≡ cond t (Ok (chip_of b)) (Err Malformed) → (t ≡ true) × (chip ≡ chip_of b)
+      by true e = (refl, cc)
+      by false e = (cc, cc)
 
-  says : record_valid b ≡ true → recalled.chip ≡ chip_of b
-  unfolding recalled_from
-  says v = ap (λ (r : Recalled). r.chip) e ∙ rw v
-
-module _ (b : List ℕ) (found : SettingsRead) (e : found ≡ settings_in b) where
-  none : found ≡ NoSettings → record_valid b ≡ false
+  none : None ≡ settings_in b → record_valid b ≡ false
   unfolding settings_in chip_of
-  none z = settings_none (record_valid b) (chip_of b).settings (sym e ∙ z)
+  none e = none_chosen _ (record_valid b) (sym e)
 
-  there : (s : Settings) → found ≡ Set s → (record_valid b ≡ true) × ((chip_of b).settings ≡ s)
+  there : (s : Settings) → Some s ≡ settings_in b → (record_valid b ≡ true) × ((chip_of b).settings ≡ s)
   unfolding settings_in chip_of
-  there s z = settings_found (record_valid b) (chip_of b).settings s (sym e ∙ z)
+  there s e = some_chosen _ (record_valid b) (sym e)
+
+  pub valid_long : record_valid b ≡ true → length b ≡ record_length
+  valid_long v = (valid_has b v).long
 
 -- ---- a valid chip written over a record of its length leaves its record
 
@@ -101,10 +96,10 @@ others = 0 ∷ 1 ∷ 2 ∷ 3 ∷ 4 ∷ 5 ∷ 7 ∷ 8 ∷ 9 ∷ 10 ∷ 11 ∷ 12 
 abbrev Other : Answer → Type 0
 Other answer = OneOf others (tag_of answer_type answer)
 
-decoded_alone : (decoded : Decoded) (code : ℕ) (s : Settings) → Other (decoded_answer decoded code) → obeyed_as decoded s ≡ s
+decoded_alone : (decoded : Option Command) (code : ℕ) (s : Settings) → Other (decoded_answer decoded code) → obeyed_as decoded s ≡ s
 unfolding obeyed_as
-decoded_alone Undefined code s h = refl
-decoded_alone (Means command) code s h = absurd (miss others 6 tt h)
+decoded_alone None code s h = refl
+decoded_alone (Some command) code s h = absurd (miss others 6 tt h)
 
 settings_alone : (upshot : Upshot) (s : Settings) → Other (told s.part upshot) → settings_after upshot s ≡ s
 unfolding settings_after
@@ -138,37 +133,43 @@ counters_alone (suc n) s =
 
 -- ---- step
 
-module _ (b : List ℕ) (recalled : Recalled) (e : recalled ≡ recalled_from b) (sample : ℕ) where
-  pub step_malformed : recalled.answer ≡ verdict.Invalid → (28 ≡ step_returns b sample) × (b ≡ step_bytes b sample)
+module _ (b : List ℕ) (sample : ℕ) where
+  pub step_malformed : record_valid b ≡ false → (28 ≡ step_returns b sample) × (b ≡ step_bytes b sample)
   unfolding step_returns step_bytes
-  step_malformed z = let v = invalid b recalled e z in (rw v, rw v)
+  step_malformed v = (rw v, rw v)
 
-  module _ (z : recalled.answer ≡ verdict.Valid) where
+  module _ (chip : Chip) (e : Ok chip ≡ recalled_from b) where
+    v : record_valid b ≡ true
+    v = (said b chip e).0
+
+    pub step_long : record_length ≤ length b
+    step_long = let long = valid_long b v in omega (arith, long)
+
     pub step_above : 15 < sample → (20 ≡ step_returns b sample) × (b ≡ step_bytes b sample)
     unfolding step_returns step_bytes
-    step_above h = let v = valid b recalled e z in (simp (v, lt-ltb _ _ h), simp (v, lt-ltb _ _ h))
+    step_above h = (simp (v, lt-ltb _ _ h), simp (v, lt-ltb _ _ h))
 
-    module _ (done : Stepped) (code : ℕ) (after : List ℕ) (h : sample ≤ 15) (d : done ≡ stepped recalled.chip sample)
+    module _ (done : Stepped) (code : ℕ) (after : List ℕ) (h : sample ≤ 15) (d : done ≡ stepped chip sample)
         (coded : code ≡ answer_code done.answer) where
       same : done ≡ stepped (chip_of b) sample
-      same = d ∙ ap (λ (c : Chip). stepped c sample) (says b recalled e (valid b recalled e z))
+      same = d ∙ ap (λ (c : Chip). stepped c sample) (said b chip e).1
 
       next_valid : Valid (stepped (chip_of b) sample).chip
-      next_valid = stepped_valid (chip_of b) sample (valid_chip b (valid b recalled e z))
+      next_valid = stepped_valid (chip_of b) sample (valid_chip b v)
 
       returned : code ≡ step_returns b sample
       unfolding step_returns
-      returned = coded ∙ ap (λ (s : Stepped). answer_code s.answer) same ∙ simp (valid b recalled e z, le-ltb _ _ h)
+      returned = coded ∙ ap (λ (s : Stepped). answer_code s.answer) same ∙ simp (v, le-ltb _ _ h)
 
       left : record_of (stepped (chip_of b) sample).chip ≡ step_bytes b sample
       unfolding step_bytes
-      left = simp (valid b recalled e z, le-ltb _ _ h)
+      left = simp (v, le-ltb _ _ h)
 
       pub step_obeyed : after ≡ written_over done.chip b → (code ≡ step_returns b sample) × (after ≡ step_bytes b sample)
       step_obeyed w = (
         returned,
         w ∙ ap (λ (s : Stepped). written_over s.chip b) same
-            ∙ written_over_lem b (stepped (chip_of b) sample).chip (valid_has b (valid b recalled e z)).long next_valid ∙ left,
+            ∙ written_over_lem b (stepped (chip_of b) sample).chip (valid_long b v) next_valid ∙ left,
       )
 
       pub step_kept : Other done.answer → after ≡ port_over done.chip.port b
@@ -176,22 +177,25 @@ module _ (b : List ℕ) (recalled : Recalled) (e : recalled ≡ recalled_from b)
       step_kept other w = (
         returned,
         w ∙ ap (λ (s : Stepped). port_over s.chip.port b) same
-            ∙ port_back b (valid b recalled e z) (stepped (chip_of b) sample).chip.port next_valid.port.size
+            ∙ port_back b v (stepped (chip_of b) sample).chip.port next_valid.port.size
             ∙ ap record_of (port_alone (chip_of b) sample h (subst (λ (s : Stepped). Other s.answer) same other)) ∙ left,
       )
 
 -- ---- advance
 
-module _ (b : List ℕ) (found : SettingsRead) (e : found ≡ settings_in b) (n : ℕ) where
-  pub advance_malformed : found ≡ NoSettings → (28 ≡ advance_returns b) × (b ≡ advance_bytes b n)
+module _ (b : List ℕ) (n : ℕ) where
+  pub advance_malformed : None ≡ settings_in b → (28 ≡ advance_returns b) × (b ≡ advance_bytes b n)
   unfolding advance_returns advance_bytes
-  advance_malformed z = let v = none b found e z in (rw v, rw v)
+  advance_malformed z = let v = none b z in (rw v, rw v)
 
-  pub advance_done : (settings next : Settings) (after : List ℕ) → found ≡ Set settings → next ≡ ticks.advanced n settings
+  pub advance_long : (settings : Settings) → Some settings ≡ settings_in b → record_length ≤ length b
+  advance_long settings z = let long = valid_long b (there b settings z).0 in omega (arith, long)
+
+  pub advance_done : (settings next : Settings) (after : List ℕ) → Some settings ≡ settings_in b → next ≡ ticks.advanced n settings
       → after ≡ counters_over next b → (0 ≡ advance_returns b) × (after ≡ advance_bytes b n)
   unfolding advance_returns advance_bytes
   advance_done settings next after z d w =
-      let v = there b found e settings z in
+      let v = there b settings z in
       let same : next ≡ ticks.advanced n (chip_of b).settings = d ∙ ap (ticks.advanced n) (sym v.1) in (
         rw v.0,
         w ∙ ap (λ (s : Settings). counters_over s b) (same ∙ sym (counters_alone n (chip_of b).settings))
@@ -201,18 +205,18 @@ module _ (b : List ℕ) (found : SettingsRead) (e : found ≡ settings_in b) (n 
 
 -- ---- pins
 
-module _ (b out : List ℕ) (found : SettingsRead) (e : found ≡ settings_in b) where
-  pub pins_malformed : found ≡ NoSettings → (28 ≡ pins_returns b out) × (out ≡ pins_bytes b out)
+module _ (b out : List ℕ) where
+  pub pins_malformed : None ≡ settings_in b → (28 ≡ pins_returns b out) × (out ≡ pins_bytes b out)
   unfolding pins_returns pins_bytes
-  pins_malformed z = let v = none b found e z in (rw v, rw v)
+  pins_malformed z = let v = none b z in (rw v, rw v)
 
-  module _ (settings : Settings) (z : found ≡ Set settings) where
+  module _ (settings : Settings) (z : Some settings ≡ settings_in b) where
     pub pins_short : length out < addresses → (25 ≡ pins_returns b out) × (out ≡ pins_bytes b out)
     unfolding pins_returns pins_bytes
-    pins_short h = let v = (there b found e settings z).0 in (simp (v, lt-ltb _ _ h), simp (v, lt-ltb _ _ h))
+    pins_short h = let v = (there b settings z).0 in (simp (v, lt-ltb _ _ h), simp (v, lt-ltb _ _ h))
 
     pub pins_long : length b ≡ record_length
-    pins_long = (valid_has b (there b found e settings z).0).long
+    pins_long = valid_long b (there b settings z).0
 
     -- byte 39 is the number of what it reads to
     pub pins_shown_lem : (mask code : ℕ) (after : List ℕ) → addresses ≤ length out → mask ≡ shown_nibble settings 15
@@ -221,7 +225,7 @@ module _ (b out : List ℕ) (found : SettingsRead) (e : found ≡ settings_in b)
         → (code ≡ pins_returns b out) × (after ≡ pins_bytes b out)
     unfolding pins_returns pins_bytes pins_code pins_shown chip_of
     pins_shown_lem mask code after h m w a =
-        let v = there b found e settings z in
+        let v = there b settings z in
         let line = line_again (byte b data_at) (fits_has b (valid_has b v.0).frame).data_low in (
           a ∙ simp (v.0, le-ltb _ _ h, v.1, line),
           w ∙ simp (v.0, le-ltb _ _ h, v.1, m, shown_under_mask),

@@ -1,8 +1,9 @@
 -- RULES "State record and simulator": what each exported call returns, and the bytes that it leaves, for every list of bytes.
 -- Assumes nothing.
-use Rattle.std.specs.Prelude.{ℕ, ◌+◌, ◌*◌, not, List, [], ◌∷◌, ltb, length}
+use Rattle.std.specs.Prelude.{ℕ, ◌+◌, ◌*◌, not, List, [], ◌∷◌, ltb, length, Result, Ok, Err}
 use Rattle.ground.specs.Sizes.{addresses}
 use Rattle.ground.specs.Bits.{bit_number}
+use Rattle.ground.specs.declared.Refusal.{Refusal}
 use Rattle.ground.specs.declared.Refusal.TheVariants.{SampleAbove, OutputShort, Malformed}
 use Rattle.ground.specs.Outcomes.{Rung, refused_if, ladder}
 use Rattle.ground.specs.Refusals.{refusal_number}
@@ -23,7 +24,12 @@ answer_code answer = answer_number answer + 256 * first_detail answer + 65536 * 
 unfoldable pub pins_code : Pins → ℕ
 pins_code pins = bit_number pins.irq + 2 * bit_number pins.bz + 4 * bit_number pins.partner + 8 * line_number pins.line
 
--- Before all else a malformed record is refused. A call returns a refusal by its number.
+-- A call returns its number, and a refusal by the refusal's.
+abbrev pub returned : Result ℕ Refusal → ℕ
+returned (Ok number) = number
+returned (Err why) = refusal_number why
+
+-- Before all else a malformed record is refused.
 abbrev pub malformed : List ℕ → Rung
 malformed b = refused_if (not (record_valid b)) Malformed
 

@@ -6,29 +6,31 @@ ghost use Rattle.std.specs.Prelude.{◌≡◌, map, ◌+◌, ◌*◌, ◌≤◌,
 ghost use Rattle.std.specs.Int.Bits.{bit_and};
 ghost use Rattle.ground.specs.Sizes.{addresses};
 ghost use Rattle.ground.specs.Bits.{bit_number};
-ghost use Rattle.ground.specs.Refusals.{refusal_number};
 ghost use Rattle.ground.specs.Written.{over};
 ghost use Rattle.pins.specs.Pins.{irq_low, bz_high, partner_high};
-ghost use Rattle.simulator.specs.Simulator.{answer_code, step_returns, step_bytes, advance_returns, advance_bytes};
+ghost use Rattle.simulator.specs.Simulator.{returned, answer_code, step_returns, step_bytes, advance_returns, advance_bytes};
 ghost use Rattle.simulator.specs.Simulator.{pins_returns, pins_bytes};
 
-use answers::Answer;
+use answers::{Answer, Numbers};
 use ground::{ADDRESSES, Refusal};
-use settings::{Settings, SettingsRead};
-use state::Verdict;
+use settings::Settings;
 
-// A refusal, as a call returns it.
-fn refused(why: Refusal) -> u32
-    ensures { result ≡ refusal_number why }
+// What a call for C returns: its number, or the refusal's. Numbers, since the callers are in C; what comes before is a Result.
+fn returned(answer: Result<u32, Refusal>) -> u32
+    ensures { result ≡ returned answer }
 {
-    why.number() as u32
+    match answer {
+        Ok(number) => number,
+        Err(why) => u32::from(u8::from(why)),
+    }
 }
 
-// An answer and its two details, as a call returns them.
+// An answer and its two details, as a call returns them. No From: `answers` has the numbers, and one number of three is C's.
+#[tactic(auto, unfolding(crate::specs::Simulator::answer_code))]
 fn code_of(answer: Answer) -> u32
     ensures { result ≡ answer_code answer }
 {
-    let told = answer.numbers();
+    let told = Numbers::from(answer);
     told.number as u32 + 256 * (told.first as u32) + 65536 * (told.second as u32)
 }
 
@@ -43,45 +45,58 @@ fn pins_code(settings: Settings, line: u8) -> u32
     (irq as u32) + 2 * (bz as u32) + 4 * (partner as u32) + 8 * (line as u32)
 }
 
-// The memory's bytes under a mask over the start of a buffer.
+// The memory's bytes under a mask over the start of a buffer. By their index: an array made by `map` and copied takes thrice as long,
+// and of `iter_mut` a proof knows no element.
 fn show(bytes: &[u8], mask: u8, out: &mut [u8])
     requires memory_there { addresses ≤ length bytes.now }
     requires room_for_cells { addresses ≤ length out.old }
     ensures { out.new ≡ over out.old 0 (map (λ n. bit_and n mask) (take addresses bytes.now)) }
 {
-    let mut i: usize = 0;
-    while i < ADDRESSES {
+    for i in 0..ADDRESSES {
         out[i] = bytes[i] & mask;
-        i += 1;
     }
 }
 
-// A sample: returns its answer in the lowest byte, the first detail in the next and the second in the third. Only an
-// obeyed command changes the settings; after any other sample the port alone is written back.
+// What `step` answers. Only an obeyed command changes the settings; after any other sample the port alone is written back.
+fn stepped(bytes: &mut [u8], sample: u8) -> Result<u32, Refusal>
+    ensures { (returned result ≡ step_returns bytes.old sample)
+        × (bytes.new ≡ step_bytes bytes.old sample) }
+{
+    let chip = state::read(bytes)?;
+    if 15 < sample {
+        return Err(Refusal::SampleAbove);
+    }
+    let done = inplace::step_by_lending(chip, sample);
+    let code = code_of(done.answer);
+    if let Answer::Obeyed(_) = done.answer {
+        state::write(done.chip, bytes)?;
+        return Ok(code);
+    }
+    state::write_port(done.chip.port, bytes)?;
+    Ok(code)
+}
+
+// What `pins` answers.
+fn shown(bytes: &[u8], out: &mut [u8]) -> Result<u32, Refusal>
+    ensures { (returned result ≡ pins_returns bytes.now out.old)
+        × (out.new ≡ pins_bytes bytes.now out.old) }
+{
+    let Some(settings) = state::settings_in(bytes) else {
+        return Err(Refusal::Malformed);
+    };
+    if out.len() < ADDRESSES {
+        return Err(Refusal::OutputShort);
+    }
+    show(bytes, pins::shown_mask(settings), out);
+    Ok(pins_code(settings, bytes[phases::DATA_AT]))
+}
+
+// A sample: returns its answer in the lowest byte, the first detail in the next and the second in the third.
 pub fn step(bytes: &mut [u8], sample: u8) -> u32
     ensures { (result ≡ step_returns bytes.old sample)
         × (bytes.new ≡ step_bytes bytes.old sample) }
 {
-    let recalled = state::read(bytes);
-    let verdict = recalled.answer;
-    let Verdict::Valid = verdict else {
-        return refused(Refusal::Malformed);
-    };
-    if 15 < sample {
-        return refused(Refusal::SampleAbove);
-    }
-    let chip = recalled.chip;
-    let done = inplace::step_by_lending(chip, sample);
-    let answer = done.answer;
-    let code = code_of(answer);
-    let next = done.chip;
-    if let Answer::Obeyed(_) = answer {
-        state::write(next, bytes);
-        return code;
-    }
-    let port = next.port;
-    state::write_port(port, bytes);
-    code
+    returned(stepped(bytes, sample))
 }
 
 // So many single ticks: returns 0. They change the counters and the scan alone, so only the bytes from these on are written back.
@@ -89,12 +104,13 @@ pub fn advance(bytes: &mut [u8], n: u16) -> u32
     ensures { (result ≡ advance_returns bytes.old)
         × (bytes.new ≡ advance_bytes bytes.old n) }
 {
-    let SettingsRead::Set(settings) = state::settings_in(bytes) else {
-        return refused(Refusal::Malformed);
+    let Some(settings) = state::settings_in(bytes) else {
+        return returned(Err(Refusal::Malformed));
     };
-    let next = ticks::advanced(settings, n);
-    settings::write_counters(next, bytes);
-    0
+    match settings::write_counters(ticks::advanced(settings, n), bytes) {
+        Ok(_) => 0,
+        Err(why) => returned(Err(why)),
+    }
 }
 
 // The pins: returns them as one number, and writes the cells that show as 32 nibbles.
@@ -102,13 +118,5 @@ pub fn pins(bytes: &[u8], out: &mut [u8]) -> u32
     ensures { (result ≡ pins_returns bytes.now out.old)
         × (out.new ≡ pins_bytes bytes.now out.old) }
 {
-    let SettingsRead::Set(settings) = state::settings_in(bytes) else {
-        return refused(Refusal::Malformed);
-    };
-    if out.len() < ADDRESSES {
-        return refused(Refusal::OutputShort);
-    }
-    let mask = pins::shown_mask(settings);
-    show(bytes, mask, out);
-    pins_code(settings, bytes[phases::DATA_AT])
+    returned(shown(bytes, out))
 }

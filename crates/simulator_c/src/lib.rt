@@ -1,4 +1,6 @@
 // The simulator's three calls as a library for C, under their plain names: libsimulator.a. Assumes nothing.
+// chip_c has the same three under other names, since C has no modules to tell them apart.
+// What they return are numbers, a refusal's too, since the callers are in C.
 #![tactic(auto)]
 
 ghost use Rattle.std.specs.Prelude.{◌≡◌};

@@ -1,18 +1,19 @@
 -- Laws of the memory's bytes: that they are nibbles, found out one by one. Assumes nothing.
-use mathlib.Core.Path.{◌≡◌, refl}
+use Rattle.std.specs.Prelude.{fold}
+use mathlib.Core.Path.{◌≡◌, ◌∙◌, refl, sym, ap}
 use mathlib.Core.Bool.{Bool, true, false, ◌&&◌}
 use mathlib.Core.List.{List, [], ◌∷◌, ◌++◌}
-use Prim.Native.Nat.{ℕ, zero, suc, ◌+◌, ◌≤◌, ◌<◌}
+use Prim.Native.Nat.{ℕ, zero, suc, ◌≤◌}
 use native.Mathlib.Omega.{arith}
 use native.Mathlib.Nat.{le_of_suc-le-suc, not-suc-le-zero}
 use lib.Dec.{leb}
-use lib.ListN.{length, take, drop, get_or, replicate, get_or-replicate}
+use lib.ListN.{length-take, length, take, replicate}
 use borrow.Author.Tests.{leb-true, le-leb}
 use Rattle.ground.specs.Sizes.{addresses, record_length}
 use Rattle.ground.specs.Ranges.{up_to}
 use Rattle.ground.proofs.ChoiceLaws.{and_left, and_right}
-use Rattle.ground.proofs.RangesLaws.{up_to_passes, up_to_fails}
 use Rattle.port.specs.Valid.{Nibbles}
+use Rattle.state.specs.Record.{memory_fits}
 
 -- ---- nibbles are bytes up to 15
 
@@ -40,28 +41,27 @@ up_to_memory (suc n) (nibble ∷ memory) bytes h v =
     let small : nibble ≤ 15 = omega (arith, v.0) in
     rw (le-leb nibble 15 small) (up_to_memory n memory bytes (omega arith) v.1)
 
--- ---- one nibble more: what was found before it, and it, decide with the rest
+-- ---- a test of each value in turn, and of the memory's bytes alone
 
-module _ (bytes : List ℕ) (i : ℕ) (long : length bytes ≡ record_length) (more : i < addresses) (right : Bool) where
-  abbrev from : ℕ → Bool
-  from k = up_to (drop k bytes) (drop k (replicate addresses 15))
-
-  pub nibble_found : (t : Bool) → 15 < get_or bytes i 0 → t ≡ false → (t && from (i + 1)) ≡ (right && from i)
-  nibble_found t lt e =
-      rw (e, up_to_fails bytes (replicate addresses 15) i (omega (arith, long)) more (rw (get_or-replicate {A = ℕ} addresses i 15 0 more) lt)) (by right)
-    where
-      by : (u : Bool) → false ≡ (u && false)
-      by true = refl
-      by false = refl
-
-  pub nibble_passed : (t : Bool) → get_or bytes i 0 ≤ 15 → t ≡ right → (t && from (i + 1)) ≡ (right && from i)
-  nibble_passed t le e =
-      rw (e, up_to_passes bytes (replicate addresses 15) i (omega (arith, long)) more (rw (get_or-replicate {A = ℕ} addresses i 15 0 more) le))
-
-pub nibbles_end : (bytes : List ℕ) (i : ℕ) → i ≡ addresses → (right : Bool)
-    → right ≡ (right && up_to (drop i bytes) (drop i (replicate addresses 15)))
-nibbles_end bytes i e right = rw (e, none_over (drop addresses bytes)) (by right)
+pub tested_all : (values : List ℕ) (right : Bool) → fold (λ right n. right && leb n 15) right values ≡ (right && up_to values (replicate (length values) 15))
+unfolding up_to
+tested_all [] true = refl
+tested_all [] false = refl
+tested_all (value ∷ values) right = tested_all values (right && leb value 15) ∙ by right (leb value 15) (up_to values (replicate (length values) 15))
   where
-    by : (u : Bool) → u ≡ (u && true)
-    by true = refl
-    by false = refl
+    by : (a b c : Bool) → ((a && b) && c) ≡ (a && (b && c))
+    by true b c = refl
+    by false b c = refl
+
+pub up_to_first : (n : ℕ) (bytes : List ℕ) → up_to (take n bytes) (replicate n 15) ≡ up_to bytes (replicate n 15)
+unfolding up_to
+up_to_first zero bytes = sym (none_over bytes)
+up_to_first (suc n) [] = refl
+up_to_first (suc n) (byte ∷ bytes) = ap (λ (t : Bool). leb byte 15 && t) (up_to_first n bytes)
+
+pub memory_tested : (b : List ℕ) → length b ≡ record_length → fold (λ right n. right && leb n 15) true (take addresses b) ≡ memory_fits b
+memory_tested b h =
+    let long : length (take addresses b) ≡ addresses = omega (arith, length-take addresses b) in
+    tested_all (take addresses b) true
+    ∙ ap (λ (n : ℕ). up_to (take addresses b) (replicate n 15)) long
+    ∙ up_to_first addresses b

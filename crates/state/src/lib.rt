@@ -2,168 +2,136 @@
 // again is the same bytes. Assumes nothing.
 #![tactic(auto)]
 
-ghost use Rattle.std.specs.Prelude.{◌≡◌, ◌&&◌, ◌≤◌, eqb, length};
+ghost use Rattle.std.specs.Prelude.{◌≡◌, ◌&&◌, ◌≤◌, eqb, length, take, fold, leb, true};
 ghost use Rattle.ground.specs.Sizes.{addresses, record_length};
 ghost use Rattle.ground.specs.Outcomes.{written_as};
 ghost use Rattle.ground.specs.Written.{over};
-ghost use Rattle.settings.specs.Bytes.{settings_at};
+ghost use Rattle.phases.specs.Frame.{framed};
+ghost use Rattle.settings.specs.Bytes.{settings_at, scan_of};
 ghost use Rattle.state.specs.Record.{memory_fits};
-ghost use Rattle.state.specs.Answers.{nothing_recalled, recalled_from, settings_in, written_over, port_over};
+ghost use Rattle.state.specs.Answers.{recalled_from, settings_in, written_over, port_over};
 
 use chip::Chip;
 use clock::Scan;
-use ground::{ADDRESSES, Outcome, PartRead, RECORD_LENGTH, Refusal};
-use phases::FrameRead;
+use ground::{ADDRESSES, RECORD_LENGTH, Refusal};
+use phases::Frame;
 use port::Port;
-use settings::{SETTINGS_AT, SettingsRead, offsets};
+use settings::{SETTINGS_AT, Settings, offsets};
 
-// Whether a record was accepted.
-#[derive(Clone, Copy)]
-pub enum Verdict {
-    Valid,
-    Invalid, // 28
-}
-
-// The chip that a record says; where it was refused, one at power-on with zeros for its memory.
-#[derive(Clone, Copy)]
-pub struct Recalled {
-    pub chip: Chip,
-    pub answer: Verdict,
-}
-
-fn nothing_recalled() -> Recalled
-    ensures { result ≡ nothing_recalled }
+// Whether all values are nibbles. All are looked at, so that they can be compared many at a time.
+fn are_nibbles(values: &[u8]) -> bool
+    ensures { result ≡ fold (λ right n. right && leb n 15) true values.now }
 {
-    Recalled {
-        answer: Verdict::Invalid,
-        chip: power::empty(),
-    }
+    values
+        .iter()
+        .fold(true, |right, nibble| right & (*nibble <= 15))
 }
 
-// Whether there are as many bytes as in a record, and nibbles first. All are looked at, so that they can be compared many at a
-// time.
+// Whether there are as many bytes as in a record, and nibbles first.
 fn memory_right(bytes: &[u8]) -> bool
     ensures { result ≡ (eqb (length bytes.now) record_length && memory_fits bytes.now) }
 {
-    let miscounted = bytes.len() != RECORD_LENGTH;
-    if miscounted {
-        return false;
-    }
-    let mut right = true;
-    let mut i: usize = 0;
-    while i < ADDRESSES {
-        let above = 15 < bytes[i];
-        if above {
-            right = false;
-        }
-        i += 1;
-    }
-    right
+    bytes.len() == RECORD_LENGTH && are_nibbles(&bytes[..ADDRESSES])
 }
 
-// The settings that a record says, if the record is valid: for whoever has no use for its port.
-pub fn settings_in(bytes: &[u8]) -> SettingsRead
+// The scan that a record's bytes 59 and 60 say. That they are a record's is asked of the caller: an array of 64 would first have to be
+// cut from the slice, whose length is tested all the same.
+fn scan_in(bytes: &[u8]) -> Scan
+    requires { length bytes.now ≡ record_length }
+    ensures { result ≡ scan_of bytes.now }
+{
+    Scan {
+        count: bytes[offsets::SCAN],
+        common: bytes[offsets::COMMON],
+    }
+}
+
+// The settings that a record says, if the record is valid: for whoever has no use for its port. It tests what `read` tests and shares no
+// function with it that would have both callers: such a one is not put into them, and a sample takes a quarter longer.
+pub fn settings_in(bytes: &[u8]) -> Option<Settings>
     ensures { result ≡ settings_in bytes.now }
 {
     if !memory_right(bytes) {
-        return SettingsRead::NoSettings;
+        return None;
     }
     if !recall::in_range(bytes) {
-        return SettingsRead::NoSettings;
+        return None;
     }
     if !resume::holds_frame(bytes) {
-        return SettingsRead::NoSettings;
+        return None;
     }
-    let scan = Scan {
-        count: bytes[offsets::SCAN],
-        common: bytes[offsets::COMMON],
+    let Some(part) = ground::part_of(bytes[offsets::PART] as usize) else {
+        return None;
     };
-    let PartRead::Known(part) = ground::part_of(bytes[offsets::PART] as usize) else {
-        return SettingsRead::NoSettings;
-    };
-    recall::settings_from(bytes, scan, part)
+    recall::settings_from(bytes, scan_in(bytes), part)
 }
 
-// The chip that a record says, if the record is valid.
-pub fn read(bytes: &[u8]) -> Recalled
+// The chip that a record says, if the record is valid; refused as malformed if it is not.
+pub fn read(bytes: &[u8]) -> Result<Chip, Refusal>
     ensures { result ≡ recalled_from bytes.now }
 {
     if !memory_right(bytes) {
-        return nothing_recalled();
+        return Err(Refusal::Malformed);
     }
     if !recall::in_range(bytes) {
-        return nothing_recalled();
+        return Err(Refusal::Malformed);
     }
-    let FrameRead::Frame(levels, phase, line) = resume::frame_in(bytes) else {
-        return nothing_recalled();
+    let Some(frame) = resume::frame_in(bytes) else {
+        return Err(Refusal::Malformed);
     };
-    let scan = Scan {
-        count: bytes[offsets::SCAN],
-        common: bytes[offsets::COMMON],
+    let Some(part) = ground::part_of(bytes[offsets::PART] as usize) else {
+        return Err(Refusal::Malformed);
     };
-    let PartRead::Known(part) = ground::part_of(bytes[offsets::PART] as usize) else {
-        return nothing_recalled();
+    let Some(settings) = recall::settings_from(bytes, scan_in(bytes), part) else {
+        return Err(Refusal::Malformed);
     };
-    let SettingsRead::Set(settings) = recall::settings_from(bytes, scan, part) else {
-        return nothing_recalled();
+    let Some(memory) = bytes.first_chunk() else {
+        return Err(Refusal::Malformed);
     };
-    Recalled {
-        answer: Verdict::Valid,
-        chip: Chip {
-            port: Port {
-                memory: ground::memory_from(bytes),
-                levels,
-                phase,
-                line,
-            },
-            settings,
-        },
+    let port = Port {
+        memory: *memory,
+        levels: frame.levels,
+        phase: frame.phase,
+        line: frame.line,
+    };
+    Ok(Chip { port, settings })
+}
+
+// What a port has in bytes 32 to 39.
+fn frame_of(port: Port) -> Frame
+    ensures { result ≡ framed port.levels port.phase port.line }
+{
+    Frame {
+        levels: port.levels,
+        phase: port.phase,
+        line: port.line,
     }
 }
 
 // The memory's bytes. How many they are is said for the callers' proofs.
 fn put_memory(memory: [u8; ADDRESSES], out: &mut [u8])
-    requires { record_length ≤ length out.old }
+    requires { addresses ≤ length out.old }
     ensures { (length memory ≡ addresses) × (out.new ≡ over out.old 0 memory) }
 {
-    let mut i: usize = 0;
-    while i < ADDRESSES {
-        out[i] = memory[i];
-        i += 1;
-    }
+    out[..ADDRESSES].copy_from_slice(&memory);
 }
 
 // Of a record that a buffer holds, the port's bytes alone, 0 to 39: for a chip whose settings are as they were.
-pub fn write_port(port: Port, out: &mut [u8]) -> Outcome
+pub fn write_port(port: Port, out: &mut [u8]) -> Result<usize, Refusal>
     ensures { (result ≡ written_as settings_at out.old) × (out.new ≡ port_over port out.old) }
 {
-    if out.len() < RECORD_LENGTH {
-        return Outcome::Refused(Refusal::OutputShort);
-    }
-    let memory = port.memory;
-    let levels = port.levels;
-    let phase = port.phase;
-    let line = port.line;
-    put_memory(memory, out);
-    phases::write_frame(levels, phase, line, out);
-    Outcome::Written(SETTINGS_AT)
+    phases::write_frame(frame_of(port), out)?;
+    put_memory(port.memory, out);
+    Ok(SETTINGS_AT)
 }
 
-// The chip's bytes over the start of a buffer.
-pub fn write(chip: Chip, out: &mut [u8]) -> Outcome
+// The chip's bytes over the start of a buffer. Not by `write_port`: with two callers that is put into neither, and a sample takes a
+// third longer.
+pub fn write(chip: Chip, out: &mut [u8]) -> Result<usize, Refusal>
     ensures { (result ≡ written_as record_length out.old) × (out.new ≡ written_over chip out.old) }
 {
-    if out.len() < RECORD_LENGTH {
-        return Outcome::Refused(Refusal::OutputShort);
-    }
-    let port = chip.port;
-    let memory = port.memory;
-    let levels = port.levels;
-    let phase = port.phase;
-    let line = port.line;
-    let settings = chip.settings;
-    put_memory(memory, out);
-    phases::write_frame(levels, phase, line, out);
-    settings::write_settings(settings, out);
-    Outcome::Written(RECORD_LENGTH)
+    phases::write_frame(frame_of(chip.port), out)?;
+    put_memory(chip.port.memory, out);
+    settings::write_settings(chip.settings, out)?;
+    Ok(RECORD_LENGTH)
 }

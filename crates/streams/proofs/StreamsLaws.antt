@@ -1,19 +1,24 @@
 -- Laws of the streams: how long they are, and how each is made of a first part and the rest. Assumes nothing.
 use mathlib.Core.Path.{◌≡◌, ◌∙◌, refl, sym, ap, ap₂}
+use mathlib.Core.Bool.{Bool}
 use mathlib.Core.List.{List, [], ◌∷◌, ◌++◌, map}
-use Prim.Native.Nat.{ℕ, zero, suc, ◌+◌, ◌-◌, ◌*◌, ◌/◌, ◌%◌, ◌≤◌, ◌<◌}
+use Prim.Native.Nat.{ℕ, zero, suc, ◌+◌, ◌*◌, ◌/◌, ◌%◌, ◌≤◌, ◌<◌}
 use native.Mathlib.Omega.{arith}
 use native.Mathlib.Numerals.{add-one}
-use lib.ListN.{length, drop, get_or, length-drop, length-map, drop_of_length-le}
+use lib.ListN.{length, drop, get_or, replicate, length-map, length-replicate, drop_of_length-le}
 use lib.Seq.{drop-cons}
 use Rattle.ground.specs.Bits.{bit_number}
 use Rattle.ground.specs.Values.{agree}
-use Rattle.streams.specs.Streams.{send_bits, read_bit, closing, nibble_bits, command_bits}
+use Rattle.streams.specs.Streams.{send_bit, send_bits, read_bit, closing, nibble_bits, command_bits}
 use Rattle.streams.specs.Streams.{send_nibbles, read_nibbles, send_commands}
 use Rattle.streams.specs.Streams.{write_stream, read_stream, command_stream, nibble_of, decoded, lowest_bits}
 use Rattle.streams.specs.Lengths.{nibble_samples, command_frame, command_samples, nibble_notes}
 
 -- ---- lengths
+
+pub bits_length : (bits : List Bool) → length (send_bits bits) ≡ 2 * length bits
+bits_length [] = refl
+bits_length (bit ∷ bits) = omega (arith, bits_length bits)
 
 pub nibbles_length : (nibbles : List ℕ) → length (send_nibbles nibbles) ≡ 1 + nibble_samples * length nibbles
 nibbles_length [] = refl
@@ -55,67 +60,66 @@ lowest_length noted = simp decoded_length (ap (λ (n : ℕ). n / nibble_notes) (
 
 -- ---- the first part and the rest
 
-drop_next : (list : List ℕ) (i : ℕ) → i < length list → drop i list ≡ get_or list i 0 ∷ drop (i + 1) list
-drop_next list i h = rw add-one (drop-cons list i 0 h)
+pub bits_append : (first second : List Bool) → send_bits (first ++ second) ≡ send_bits first ++ send_bits second
+bits_append [] second = refl
+bits_append (bit ∷ first) second = ap (λ (l : List ℕ). send_bit bit ++ l) (bits_append first second)
 
--- a list is sent item by item, and then the frame closes
-pub record ByItems (send : List ℕ → List ℕ) (item : ℕ → List ℕ) : Type 0 where
-  pub more : (value : ℕ) (rest : List ℕ) → send (value ∷ rest) ≡ item value ++ send rest
-  pub none : send [] ≡ closing
+-- a list is sent item by item, and then what closes it
+pub record ByItems {A : Type 0} (send : List A → List ℕ) (item : A → List ℕ) (close : List ℕ) : Type 0 where
+  pub more : (value : A) (rest : List A) → send (value ∷ rest) ≡ item value ++ send rest
+  pub none : send [] ≡ close
 
-pub nibbles_by_items : ByItems send_nibbles (λ nibble. send_bits (nibble_bits nibble))
+pub bits_by_items : ByItems send_bits send_bit []
+bits_by_items = record { more = λ bit bits. refl; none = refl }
+
+pub nibbles_by_items : ByItems send_nibbles (λ nibble. send_bits (nibble_bits nibble)) closing
 nibbles_by_items = record { more = λ nibble nibbles. refl; none = refl }
 
-pub commands_by_items : ByItems send_commands (λ code. send_bits (command_bits code))
+pub commands_by_items : ByItems send_commands (λ code. send_bits (command_bits code)) closing
 commands_by_items = record { more = λ code codes. refl; none = refl }
 
-module _ {send : List ℕ → List ℕ} {item : ℕ → List ℕ} (by : ByItems send item) (list : List ℕ) (i : ℕ) where
-  pub items_next : i < length list → send (drop i list) ≡ item (get_or list i 0) ++ send (drop (i + 1) list)
-  items_next h = ap send (drop_next list i h) ∙ by.more (get_or list i 0) (drop (i + 1) list)
+-- nibbles to be read are a list of as many items, whatever they are
+abbrev pub send_reads : List ℕ → List ℕ
+send_reads list = read_nibbles (length list)
 
-  pub items_end : length list ≤ i → send (drop i list) ≡ closing
+pub any_length : (count : ℕ) → length (replicate {A = ℕ} count 0) ≡ count
+any_length count = length-replicate count 0
+
+pub reads_by_items : ByItems send_reads (λ any. read_bit ++ read_bit ++ read_bit ++ read_bit) closing
+reads_by_items = record { more = λ any list. refl; none = refl }
+
+module _ {A : Type 0} {send : List A → List ℕ} {item : A → List ℕ} {close : List ℕ} (by : ByItems send item close)
+    (list : List A) (i : ℕ) where
+  pub items_next : (d : A) → i < length list → send (drop i list) ≡ item (get_or list i d) ++ send (drop (i + 1) list)
+  items_next d h = ap send (rw add-one (drop-cons list i d h)) ∙ by.more (get_or list i d) (drop (i + 1) list)
+
+  pub items_end : length list ≤ i → send (drop i list) ≡ close
   items_end h = ap send (drop_of_length-le list h) ∙ by.none
 
-pub reads_next : (count : ℕ) → 0 < count
-    → read_nibbles count ≡ (read_bit ++ read_bit ++ read_bit ++ read_bit) ++ read_nibbles (count - 1)
-reads_next zero h = let no : ⊥ = omega arith in absurd no
-reads_next (suc count) h =
-    let less : count ≡ suc count - 1 = omega arith in
-    ap (λ (n : ℕ). read_bit ++ read_bit ++ read_bit ++ read_bit ++ read_nibbles n) less
+-- four noted bytes make a nibble
+decoded_four : (notes rest : List ℕ) (nibble : ℕ) → length notes ≡ nibble_notes
+    → nibble ≡ nibble_of (get_or notes 0 0 % 2) (get_or notes 1 0 % 2) (get_or notes 2 0 % 2) (get_or notes 3 0 % 2)
+    → decoded (lowest_bits (notes ++ rest)) ≡ (nibble ∷ []) ++ decoded (lowest_bits rest)
+decoded_four [] rest nibble h e = let no : ⊥ = omega arith in absurd no
+decoded_four (d0 ∷ []) rest nibble h e = let no : ⊥ = omega arith in absurd no
+decoded_four (d0 ∷ d1 ∷ []) rest nibble h e = let no : ⊥ = omega arith in absurd no
+decoded_four (d0 ∷ d1 ∷ d2 ∷ []) rest nibble h e = let no : ⊥ = omega arith in absurd no
+decoded_four (d0 ∷ d1 ∷ d2 ∷ d3 ∷ []) rest nibble h e = ap (λ (n : ℕ). n ∷ decoded (lowest_bits rest)) (sym e)
+decoded_four (d0 ∷ d1 ∷ d2 ∷ d3 ∷ d4 ∷ notes) rest nibble h e = let no : ⊥ = omega arith in absurd no
 
-pub reads_end : (count : ℕ) → count ≤ 0 → read_nibbles count ≡ closing
-reads_end zero h = refl
-reads_end (suc count) h = let no : ⊥ = omega arith in absurd no
-
--- of noted bytes, four by four
-pub decoded_next : (noted : List ℕ) (k nibble : ℕ) → k < length noted / nibble_notes
-    → nibble
-    ≡ nibble_of (get_or noted (nibble_notes * k) 0 % 2) (get_or noted (nibble_notes * k + 1) 0 % 2) (get_or noted (nibble_notes * k + 2) 0 % 2) (get_or noted (nibble_notes * k + 3) 0 % 2)
-    → decoded (lowest_bits (drop (nibble_notes * k) noted)) ≡ (nibble ∷ []) ++ decoded (lowest_bits (drop (nibble_notes * (k + 1)) noted))
-decoded_next noted k nibble h e =
-    let one = drop_next noted (nibble_notes * k) (omega arith) in
-    let two = drop_next noted (nibble_notes * k + 1) (omega arith) in
-    let three = drop_next noted (nibble_notes * k + 2) (omega arith) in
-    let four = drop_next noted (nibble_notes * k + 3) (omega arith) in
-    let at2 : nibble_notes * k + 1 + 1 ≡ nibble_notes * k + 2 = omega arith in
-    let at3 : nibble_notes * k + 2 + 1 ≡ nibble_notes * k + 3 = omega arith in
-    let at4 : nibble_notes * k + 3 + 1 ≡ nibble_notes * (k + 1) = omega arith in
-    let all : drop (nibble_notes * k) noted
-    ≡ get_or noted (nibble_notes * k) 0 ∷ get_or noted (nibble_notes * k + 1) 0 ∷ get_or noted (nibble_notes * k + 2) 0 ∷ get_or noted (nibble_notes * k + 3) 0 ∷ drop (nibble_notes * (k + 1)) noted =
-    cc in
-    ap (λ (l : List ℕ). decoded (lowest_bits l)) all
-    ∙ ap (λ (n : ℕ). n ∷ decoded (lowest_bits (drop (nibble_notes * (k + 1)) noted))) (sym e)
+pub decoded_next : (noted notes rest : List ℕ) (nibble : ℕ) → noted ≡ notes ++ rest → length notes ≡ nibble_notes
+    → nibble ≡ nibble_of (get_or notes 0 0 % 2) (get_or notes 1 0 % 2) (get_or notes 2 0 % 2) (get_or notes 3 0 % 2)
+    → decoded (lowest_bits noted) ≡ (nibble ∷ []) ++ decoded (lowest_bits rest)
+decoded_next noted notes rest nibble cut h e =
+    ap (λ (l : List ℕ). decoded (lowest_bits l)) cut ∙ decoded_four notes rest nibble h e
 
 -- fewer than four make none
-few_decoded : (noted : List ℕ) → length noted < nibble_notes → decoded (lowest_bits noted) ≡ []
-few_decoded [] h = refl
-few_decoded (d0 ∷ []) h = refl
-few_decoded (d0 ∷ d1 ∷ []) h = refl
-few_decoded (d0 ∷ d1 ∷ d2 ∷ []) h = refl
-few_decoded (d0 ∷ d1 ∷ d2 ∷ d3 ∷ noted) h = let no : ⊥ = omega arith in absurd no
-
-pub decoded_end : (noted : List ℕ) (k : ℕ) → length noted / nibble_notes ≤ k → decoded (lowest_bits (drop (nibble_notes * k) noted)) ≡ []
-decoded_end noted k h = few_decoded (drop (nibble_notes * k) noted) (simp length-drop (omega arith))
+pub decoded_few : (noted : List ℕ) → length noted < nibble_notes → decoded (lowest_bits noted) ≡ []
+decoded_few [] h = refl
+decoded_few (d0 ∷ []) h = refl
+decoded_few (d0 ∷ d1 ∷ []) h = refl
+decoded_few (d0 ∷ d1 ∷ d2 ∷ []) h = refl
+decoded_few (d0 ∷ d1 ∷ d2 ∷ d3 ∷ noted) h = let no : ⊥ = omega arith in absurd no
 
 -- notes that are bits count as they stand
 pub bits_noted : (noted : List ℕ) → ((k : ℕ) → k < length noted → get_or noted k 0 ≤ 1) → lowest_bits noted ≡ noted

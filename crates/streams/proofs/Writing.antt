@@ -1,37 +1,18 @@
 -- A list of bytes written in several goes: what is written so far and what is left to write make the whole.
 -- Assumes nothing.
 use mathlib.Core.Path.{◌≡◌, ◌∙◌, refl, sym, ap}
-use mathlib.Core.List.{List, [], ◌∷◌, ◌++◌, append_assoc, append-nil}
+use mathlib.Core.List.{List, [], ◌++◌, append_assoc, append-nil}
 use Prim.Native.Nat.{ℕ, ◌+◌, ◌≤◌}
 use native.Mathlib.Omega.{arith}
-use native.Mathlib.Numerals.{add-one}
-use lib.ListN.{length, set, length-append}
-use lib.Seq.{sets-eq}
+use lib.ListN.{length, length-append}
 use Rattle.ground.specs.Written.{Wrote}
-use Rattle.ground.proofs.WrittenLaws.{set_over, wrote_none, wrote_then, wrote_length}
+use Rattle.ground.proofs.WrittenLaws.{wrote_none, wrote_then, wrote_length}
 
--- two stores side by side
-pub wrote_pair : (buffer : List ℕ) (at low high : ℕ) → at + 2 ≤ length buffer
-    → Wrote buffer at (low ∷ high ∷ []) (set (set buffer at low) (at + 1) high) (at + 2)
-wrote_pair buffer at low high h = record { cursor = refl; buffer = rw add-one (sets-eq (low ∷ high ∷ []) buffer at h) }
-
--- one store
-pub wrote_one : (buffer : List ℕ) (at byte : ℕ) → at + 1 ≤ length buffer
-    → Wrote buffer at (byte ∷ []) (set buffer at byte) (at + 1)
-wrote_one buffer at byte h = record { cursor = refl; buffer = set_over buffer at byte (omega arith) }
-
--- three and four writes, one after another
-module _ {a b c d : List ℕ} {x y z : List ℕ} {at k l m : ℕ} where
-  pub wrote_three : Wrote a at x b k → Wrote b k y c l → Wrote c l z d m
-      → at + length x + length y + length z ≤ length a → Wrote a at (x ++ y ++ z) d m
-  wrote_three p q r h =
-      wrote_then (x ++ y) z (wrote_then x y p q (omega arith)) r (omega (arith, length-append x y))
-
-  pub wrote_four : {e w : List ℕ} {n : ℕ} → Wrote a at x b k → Wrote b k y c l → Wrote c l z d m → Wrote d m w e n
-      → at + length x + length y + length z + length w ≤ length a → Wrote a at (x ++ y ++ z ++ w) e n
-  wrote_four {e} {w} {n} p q r s h =
-      wrote_then (x ++ y ++ z) w (wrote_three p q r (omega arith)) s
-      (omega (arith, length-append x y, length-append (x ++ y) z))
+-- three writes, one after another
+pub wrote_three : {a b c d x y z : List ℕ} {at k l m : ℕ} → Wrote a at x b k → Wrote b k y c l → Wrote c l z d m
+    → at + length x + length y + length z ≤ length a → Wrote a at (x ++ y ++ z) d m
+wrote_three {x = x} {y = y} {z = z} p q r h =
+    wrote_then (x ++ y) z (wrote_then x y p q (omega arith)) r (omega (arith, length-append x y))
 
 -- `rest` is what is left to write of `whole`, which began at `from` and has the room that it needs
 pub record Writing (before : List ℕ) (from : ℕ) (whole after : List ℕ) (at : ℕ) (rest : List ℕ) : Type 0 where
@@ -49,16 +30,12 @@ module _ {before whole after : List ℕ} {from at : ℕ} where
       → length w.done + length rest ≡ length whole
   writing_sum rest w = sym (length-append w.done rest) ∙ ap length w.joined
 
-  -- the buffer is as long as it was
-  pub writing_same : {rest : List ℕ} → Writing before from whole after at rest → length after ≡ length before
-  writing_same {rest} w = let sum = writing_sum rest w in wrote_length w.wrote (omega (arith, w.fits))
-
   -- there is room for the first part of what is left
   pub writing_part : (part more : List ℕ) {rest : List ℕ} → Writing before from whole after at rest
       → rest ≡ part ++ more → at + length part ≤ length after
   writing_part part more {rest} w e =
       let sum = writing_sum rest w in
-      let same = writing_same w in
+      let same = wrote_length w.wrote (omega (arith, w.fits)) in
       let size = ap length e ∙ length-append part more in
       omega (arith, w.fits, w.wrote.cursor)
 
@@ -82,15 +59,14 @@ module _ {before whole after : List ℕ} {from at : ℕ} where
       let all = sym (append-nil w.done) ∙ ap (λ (l : List ℕ). w.done ++ l) (sym e) ∙ w.joined in
       rw all at w.wrote
 
-  -- one byte is left, and there is room for it
-  pub writing_room : (byte : ℕ) {rest : List ℕ} → Writing before from whole after at rest → rest ≡ byte ∷ []
-      → at + 1 ≤ length after
-  writing_room byte w e = writing_part (byte ∷ []) [] w e
+  -- one part is left, and there is room for it
+  pub writing_room : (part : List ℕ) {rest : List ℕ} → Writing before from whole after at rest → rest ≡ part
+      → at + length part ≤ length after
+  writing_room part w e = writing_part part [] w (e ∙ sym (append-nil part))
 
   -- and it is written
-  pub writing_last : (byte : ℕ) {rest : List ℕ} → Writing before from whole after at rest → rest ≡ byte ∷ []
-      → Wrote before from whole (set after at byte) (at + 1)
-  writing_last byte w e =
-      let one = wrote_one after at byte (writing_room byte w e) in
-      let all = writing_more (byte ∷ []) [] w e one in
+  pub writing_last : (part : List ℕ) {rest later : List ℕ} {next : ℕ} → Writing before from whole after at rest
+      → rest ≡ part → Wrote after at part later next → Wrote before from whole later next
+  writing_last part w e p =
+      let all = writing_more part [] w (e ∙ sym (append-nil part)) p in
       rw (sym (append-nil all.done) ∙ all.joined) at all.wrote

@@ -1,4 +1,3 @@
 pub mod Lengths
 pub mod Sent
 pub mod Streams
-pub mod Weights

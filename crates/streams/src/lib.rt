@@ -2,13 +2,15 @@
 // buffer lent, or refuses with 25 and writes nothing; what may be asked of a chip is for the driver to say. Assumes nothing.
 #![tactic(auto)]
 
-ghost use Rattle.std.specs.Prelude.{◌≡◌, ◌+◌, ◌*◌, ◌%◌, ◌<◌, ltb};
+ghost use Rattle.std.specs.Prelude.{◌≡◌, ◌+◌, ◌*◌, ◌%◌, ◌≤◌, ◌<◌, ◌++◌, ltb, length};
+ghost use Rattle.ground.specs.Written.{Wrote};
+ghost use Rattle.streams.specs.Streams.{opening, send_bits, address_bits};
 ghost use Rattle.streams.specs.Streams.{write_stream, read_stream, command_stream, nibble_of, decoded, lowest_bits};
 ghost use Rattle.streams.specs.Sent.{Sends};
 
 mod samples; // samples.rt: parts of a stream, written at a cursor
 
-use ground::{Outcome, Refusal};
+use ground::Refusal;
 
 // The samples of a write or a read beside its nibbles, and of a nibble.
 pub const TRANSFER_FRAME: usize = 21;
@@ -23,89 +25,85 @@ const COMMAND_SAMPLES: usize = 18;
 // Four noted bytes make a nibble.
 pub const NIBBLE_NOTES: usize = 4;
 
-// What every frame starts and ends with.
-const IDLE: u8 = 15;
+// What every frame starts and ends with: all lines high, then CS low; and all high again.
+const OPENING: [u8; 2] = [15, 14];
 
-const OPEN: u8 = 14;
+const CLOSING: [u8; 1] = [15];
 
-// The three IDs, as numbers of three bits.
-const WRITE_ID: u16 = 5;
+// A nibble read: four times RD goes low, then high, with DATA high.
+const READ_NIBBLE: [u8; NIBBLE_SAMPLES] = [10, 14, 10, 14, 10, 14, 10, 14];
 
-const READ_ID: u16 = 6;
+// The three IDs.
+const WRITE_ID: [bool; 3] = [true, false, true];
 
-const COMMAND_ID: u16 = 4;
+const READ_ID: [bool; 3] = [true, true, false];
+
+const COMMAND_ID: [bool; 3] = [true, false, false];
 
 // Whether a buffer has no room for a frame and `count` parts of `each` samples, for every number that a caller can pass.
 fn short(room: usize, frame: usize, each: usize, count: usize) -> bool
     requires { 0 < each }
     ensures { result ≡ ltb room (frame + each * count) }
 {
-    if room < frame {
-        return true;
-    }
-    if (room - frame) / each < count {
-        return true;
-    }
-    false
+    room < frame || (room - frame) / each < count
+}
+
+// How a write and a read begin: the ID and the address.
+fn open_transfer(id: [bool; 3], first: u8, out: &mut [u8]) -> usize
+    requires { 20 ≤ length out.old }
+    ensures { Wrote out.old 0 (opening ++ send_bits (id ++ address_bits first)) out.new result }
+{
+    let opened = samples::put(out, 0, OPENING);
+    let named = samples::put_bits(out, opened, &id);
+    samples::put_bits(out, named, &samples::address_bits(first))
 }
 
 // The stream that writes nibbles, the four lowest bits of each, from the address `first` on.
-pub fn write(first: u8, nibbles: &[u8], out: &mut [u8]) -> Outcome
+pub fn write(first: u8, nibbles: &[u8], out: &mut [u8]) -> Result<usize, Refusal>
     ensures { Sends
         (write_stream first nibbles.now)
         out.old result out.new }
 {
     if short(out.len(), TRANSFER_FRAME, NIBBLE_SAMPLES, nibbles.len()) {
-        return Outcome::Refused(Refusal::OutputShort);
+        return Err(Refusal::OutputShort);
     }
-    let opened = samples::put_pair(out, 0, IDLE, OPEN);
-    let mut at = samples::put_nine(out, opened, 64 * WRITE_ID + first as u16 % 64);
-    let mut i: usize = 0;
-    while i < nibbles.len() {
-        at = samples::put_nibble(out, at, nibbles[i]);
-        i += 1;
+    let mut at = open_transfer(WRITE_ID, first, out);
+    for nibble in nibbles {
+        at = samples::put_bits(out, at, &samples::nibble_bits(*nibble));
     }
-    out[at] = IDLE;
-    let sent = at + 1;
-    Outcome::Written(sent)
+    let written = samples::put(out, at, CLOSING);
+    Ok(written)
 }
 
 // The stream that reads `count` nibbles from the address `first` on.
-pub fn read(first: u8, count: usize, out: &mut [u8]) -> Outcome
+pub fn read(first: u8, count: usize, out: &mut [u8]) -> Result<usize, Refusal>
     ensures { Sends (read_stream first count) out.old result out.new }
 {
     if short(out.len(), TRANSFER_FRAME, NIBBLE_SAMPLES, count) {
-        return Outcome::Refused(Refusal::OutputShort);
+        return Err(Refusal::OutputShort);
     }
-    let opened = samples::put_pair(out, 0, IDLE, OPEN);
-    let mut at = samples::put_nine(out, opened, 64 * READ_ID + first as u16 % 64);
-    let mut todo = count;
-    while 0 < todo {
-        at = samples::put_read_nibble(out, at);
-        todo -= 1;
+    let mut at = open_transfer(READ_ID, first, out);
+    for _ in 0..count {
+        at = samples::put(out, at, READ_NIBBLE);
     }
-    out[at] = IDLE;
-    let asked = at + 1;
-    Outcome::Written(asked)
+    let sent = samples::put(out, at, CLOSING);
+    Ok(sent)
 }
 
 // The stream that gives commands, each by the byte of its upper eight bits; the ninth is 0.
-pub fn commands(codes: &[u8], out: &mut [u8]) -> Outcome
+pub fn commands(codes: &[u8], out: &mut [u8]) -> Result<usize, Refusal>
     ensures { Sends (command_stream codes.now) out.old result out.new }
 {
     if short(out.len(), COMMAND_FRAME, COMMAND_SAMPLES, codes.len()) {
-        return Outcome::Refused(Refusal::OutputShort);
+        return Err(Refusal::OutputShort);
     }
-    let opened = samples::put_pair(out, 0, IDLE, OPEN);
-    let mut at = samples::put_three(out, opened, COMMAND_ID, 1);
-    let mut i: usize = 0;
-    while i < codes.len() {
-        at = samples::put_nine(out, at, 2 * codes[i] as u16);
-        i += 1;
+    let opened = samples::put(out, 0, OPENING);
+    let mut at = samples::put_bits(out, opened, &COMMAND_ID);
+    for code in codes {
+        at = samples::put_bits(out, at, &samples::command_bits(*code));
     }
-    out[at] = IDLE;
-    let given = at + 1;
-    Outcome::Written(given)
+    let sent = samples::put(out, at, CLOSING);
+    Ok(sent)
 }
 
 // A nibble of four notes, D0 first, each by its lowest bit.
@@ -117,18 +115,17 @@ fn nibble_of(d0: u8, d1: u8, d2: u8, d3: u8) -> u8
 
 // The nibbles that notes make, a byte for each: a note counts by its lowest bit, and four make a nibble, D0 first. What is
 // left over is dropped.
-pub fn decode(noted: &[u8], out: &mut [u8]) -> Outcome
+pub fn decode(noted: &[u8], out: &mut [u8]) -> Result<usize, Refusal>
     ensures { Sends (decoded (lowest_bits noted.now)) out.old result out.new }
 {
     let count = noted.len() / NIBBLE_NOTES;
     if out.len() < count {
-        return Outcome::Refused(Refusal::OutputShort);
+        return Err(Refusal::OutputShort);
     }
-    let mut at: usize = 0;
-    while at < count {
-        let i = NIBBLE_NOTES * at;
-        out[at] = nibble_of(noted[i], noted[i + 1], noted[i + 2], noted[i + 3]);
-        at += 1;
+    let mut at = 0;
+    for notes in noted.chunks_exact(NIBBLE_NOTES) {
+        let nibble = nibble_of(notes[0], notes[1], notes[2], notes[3]);
+        at = samples::put(out, at, [nibble]);
     }
-    Outcome::Written(at)
+    Ok(at)
 }

@@ -1,67 +1,81 @@
-// Parts of a stream written into a buffer, sample by sample, at a cursor. Each function asks for the room that it needs.
-ghost use Rattle.std.specs.Prelude.{◌+◌, ◌*◌, ◌≤◌, ◌<◌, [], ◌∷◌, ◌++◌, length};
+// Parts of a stream written into a buffer at a cursor, and the bits that are sent of an address, a nibble and a command.
+// Buffer and cursor are no struct: only `put` and `put_bits` would be its methods, and it would lend a buffer that is lent already.
+ghost use Rattle.std.specs.Prelude.{◌≡◌, ◌+◌, ◌*◌, ◌≤◌, ◌<◌, length};
+ghost use Rattle.ground.specs.Bits.{bit_at};
 ghost use Rattle.ground.specs.Written.{Wrote};
-ghost use Rattle.streams.specs.Streams.{send_bit, send_bits, read_bit, nibble_bits};
-ghost use Rattle.streams.specs.Weights.{weighed, three_bits, nine_bits};
+ghost use Rattle.streams.specs.Streams.{send_bits, address_bits, nibble_bits, command_bits};
 
-// Two samples.
-pub(crate) fn put_pair(out: &mut [u8], at: usize, low: u8, high: u8) -> usize
-    requires { at + 2 ≤ length out.old }
-    ensures { Wrote out.old at (low ∷ high ∷ []) out.new result }
+// Samples, just as they are.
+pub(crate) fn put<const N: usize>(out: &mut [u8], at: usize, samples: [u8; N]) -> usize
+    requires { at + N ≤ length out.old }
+    ensures { Wrote out.old at samples.entry out.new result }
 {
-    out[at] = low;
-    out[at + 1] = high;
-    at + 2
+    let next = at + N;
+    out[at..next].copy_from_slice(&samples);
+    next
 }
 
-// The bit of a number that has a weight.
-fn put_bit(out: &mut [u8], at: usize, number: u16, weight: u16) -> usize
-    requires { (0 < weight) × (at + 2 ≤ length out.old) }
-    ensures { Wrote out.old at (send_bit (weighed weight number)) out.new result }
+// Bits, each in two samples with DATA at it: WR goes low, then high.
+pub(crate) fn put_bits(out: &mut [u8], at: usize, bits: &[bool]) -> usize
+    requires { at + 2 * length bits.now ≤ length out.old }
+    ensures { Wrote out.old at (send_bits bits.now) out.new result }
 {
-    let bit = (number / weight % 2) as u8;
-    put_pair(out, at, 4 + 8 * bit, 6 + 8 * bit)
+    let mut next = at;
+    for bit in bits {
+        let level = 8 * u8::from(*bit);
+        next = put(out, next, [4 + level, 6 + level]);
+    }
+    next
 }
 
-// Three bits of a number, highest first, the last of them of the weight given.
-pub(crate) fn put_three(out: &mut [u8], at: usize, number: u16, weight: u16) -> usize
-    requires { (0 < weight) × (weight ≤ 64) × (at + 6 ≤ length out.old) }
-    ensures { Wrote out.old at (send_bits (three_bits weight number)) out.new result }
+// Bit `place` of a number, 0 the lowest. The chip has one of its own, in frames: it is asked for any place, and this one for those of a
+// byte. One for both would be a public function, for one line of code.
+fn bit_at(place: u8, number: u8) -> bool
+    requires { place < 8 }
+    ensures { result ≡ bit_at place number }
 {
-    let second = put_bit(out, at, number, 4 * weight);
-    let third = put_bit(out, second, number, 2 * weight);
-    put_bit(out, third, number, weight)
+    (number >> place) % 2 == 1
 }
 
-// Nine bits of a number, highest first.
-pub(crate) fn put_nine(out: &mut [u8], at: usize, number: u16) -> usize
-    requires { at + 18 ≤ length out.old }
-    ensures { Wrote out.old at (send_bits (nine_bits number)) out.new result }
+// An address, A5 first.
+pub(crate) fn address_bits(first: u8) -> [bool; 6]
+    ensures { result ≡ address_bits first }
 {
-    let fourth = put_three(out, at, number, 64);
-    let seventh = put_three(out, fourth, number, 8);
-    put_three(out, seventh, number, 1)
+    [
+        bit_at(5, first),
+        bit_at(4, first),
+        bit_at(3, first),
+        bit_at(2, first),
+        bit_at(1, first),
+        bit_at(0, first),
+    ]
 }
 
 // A nibble, D0 first.
-pub(crate) fn put_nibble(out: &mut [u8], at: usize, nibble: u8) -> usize
-    requires { at + 8 ≤ length out.old }
-    ensures { Wrote out.old at (send_bits (nibble_bits nibble)) out.new result }
+pub(crate) fn nibble_bits(nibble: u8) -> [bool; 4]
+    ensures { result ≡ nibble_bits nibble }
 {
-    let number = nibble as u16;
-    let second = put_bit(out, at, number, 1);
-    let third = put_bit(out, second, number, 2);
-    let fourth = put_bit(out, third, number, 4);
-    put_bit(out, fourth, number, 8)
+    [
+        bit_at(0, nibble),
+        bit_at(1, nibble),
+        bit_at(2, nibble),
+        bit_at(3, nibble),
+    ]
 }
 
-// Four bits to be read.
-pub(crate) fn put_read_nibble(out: &mut [u8], at: usize) -> usize
-    requires { at + 8 ≤ length out.old }
-    ensures { Wrote out.old at (read_bit ++ read_bit ++ read_bit ++ read_bit) out.new result }
+// A command: its byte, the highest bit first, and a 0 that the chip ignores.
+pub(crate) fn command_bits(code: u8) -> [bool; 9]
+    ensures { result ≡ command_bits code }
 {
-    let second = put_pair(out, at, 10, 14);
-    let third = put_pair(out, second, 10, 14);
-    let fourth = put_pair(out, third, 10, 14);
-    put_pair(out, fourth, 10, 14)
+    [
+        bit_at(7, code),
+        bit_at(6, code),
+        bit_at(5, code),
+        bit_at(4, code),
+        bit_at(3, code),
+        bit_at(2, code),
+        bit_at(1, code),
+        bit_at(0, code),
+        false,
+    ]
 }

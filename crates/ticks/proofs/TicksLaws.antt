@@ -5,7 +5,7 @@ use Prim.Native.Nat.{ℕ, zero, suc, ◌+◌}
 use native.Mathlib.Nat.{zero-add, suc-add}
 use Rattle.ground.proofs.ChoiceLaws.{either, of_choice}
 use Rattle.clock.specs.declared.Source.{Source}
-use Rattle.clock.specs.declared.Prescaler.{Prescaler}
+use Rattle.clock.specs.Counters.{Prescaler}
 use Rattle.clock.specs.declared.Counters.{Counters}
 use Rattle.clock.specs.declared.Scan.{Scan}
 use Rattle.clock.specs.Ticks.{prescaled, is_base_tick, base_ticked, counters_ticked, scan_stepped, scan_ticked}

@@ -8,45 +8,37 @@ use clock::Source;
 use settings::Settings;
 
 // Whether the clock runs.
+#[tactic(auto, unfolding(crate::specs::Ticks::running))]
 pub fn running(settings: Settings) -> bool
     ensures { result ≡ running settings }
 {
-    if settings.system.on {
-        return true;
-    }
-    let system = settings.system;
-    let source = system.source;
-    match source {
-        Source::Xtal => false,
-        Source::Rc => false,
-        Source::Ext => true,
-    }
+    settings.system.on || matches!(settings.system.source, Source::Ext)
 }
 
 // The settings after `ticks` single ticks, without walking. Counters and scan go by the same base ticks, which the compiler works out once.
+// Set in place and not by a struct update, which takes 16 bytes of stack more than the header of `advance` allows.
+#[tactic(auto, using(crate::proofs::TicksLaws::advanced_still, crate::proofs::TicksLaws::advanced_at_once))]
 pub fn advanced(settings: Settings, ticks: u16) -> Settings
     ensures { result ≡ advanced ticks settings }
 {
-    let runs = running(settings);
-    if runs {
-        let system = settings.system;
-        let source = system.source;
-        let lcd = settings.lcd;
-        let commons = lcd.commons;
-        let part = settings.part;
-        let prescaler = settings.counters.prescaler;
-        let base_ticks = prescaler.base_ticks(source, ticks);
-        let mut next = settings;
-        next.counters = settings
-            .counters
-            .ticked_by(source, settings.base.on, settings.base.rate, ticks);
-        next.scan = settings.scan.stepped_by(part, commons, base_ticks);
-        return next;
+    if !running(settings) {
+        return settings;
     }
-    settings
+    let source = settings.system.source;
+    let base = settings.base;
+    let base_ticks = settings.counters.prescaler.base_ticks(source, ticks);
+    let mut next = settings;
+    next.counters = settings
+        .counters
+        .ticked_by(source, base.on, base.rate, ticks);
+    next.scan = settings
+        .scan
+        .stepped_by(settings.part, settings.lcd.commons, base_ticks);
+    next
 }
 
 // The settings after one tick of the system clock.
+#[tactic(auto, unfolding(crate::specs::Ticks::advanced))]
 pub fn ticked(settings: Settings) -> Settings
     ensures { result ≡ ticked settings }
 {

@@ -1,23 +1,27 @@
 -- Laws of the lines: how long each is, so that every listing fits its room; and one write after another makes a line.
 -- Assumes nothing.
-use mathlib.Core.Path.{◌≡◌, ◌∙◌, refl, sym, ap}
+use Rattle.std.specs.Prelude.{Ok, Err}
+use mathlib.Core.Path.{◌≡◌, ◌∙◌, refl, sym}
 use mathlib.Core.Bool.{Bool, true, false, cond}
+use mathlib.Core.Logic.{◌⊎◌, inl, inr}
 use mathlib.Core.List.{List, [], ◌∷◌, ◌++◌}
 use Prim.Native.Nat.{ℕ, ◌+◌, ◌*◌, ◌≤◌}
 use native.Mathlib.Omega.{arith}
 use lib.Dec.{ltb, eqb}
 use lib.ListN.{length, length-append}
-use borrow.Author.Tests.{ltb-false, eq-eqb, ne_eqb}
-use Rattle.ground.specs.declared.Refusal.TheVariants.{OutputShort}
-use Rattle.ground.specs.declared.Outcome.{Outcome}
-use Rattle.ground.specs.declared.Outcome.TheVariants.{Written, Refused}
+use borrow.Author.Tests.{ltb-false, ne_eqb}
+use Rattle.ground.specs.declared.Refusal.{Refusal}
+use Rattle.ground.specs.declared.Refusal.TheVariants.{SampleAbove, NothingAsked, AddressAbove, NibbleAbove, UndefinedCommand, OutputShort, NotedCount, NotedAbove, Malformed, MemoryCount, RunsPastEnd, TooManyCommands, UnknownPart}
+use Rattle.ground.specs.Refusals.{refusal_number}
+use Rattle.ground.specs.Outcomes.{Outcome}
 use Rattle.ground.specs.Outcomes.{ComesTo}
 use Rattle.ground.specs.Written.{Wrote}
 use Rattle.ground.proofs.ChoiceLaws.{either, by_cases}
 use Rattle.ground.proofs.WrittenLaws.{wrote_none, wrote_then}
 use Rattle.answers.specs.declared.Answer.{Answer}
+use Rattle.answers.specs.declared.Answer.TheVariants.{Nothing, Opened, Closed, Dropped, Taken, Stored, Obeyed, Passed, Offered, Stray, Unknown, Clash, Refused}
 use Rattle.answers.specs.declared.Numbers.{Numbers}
-use Rattle.answers.specs.Answers.{answer_number, numbers}
+use Rattle.answers.specs.Answers.{answer_number, first_detail, second_detail, numbers}
 use Rattle.chip.specs.declared.Chip.{Chip}
 use Rattle.chip.specs.Chip.{stepped, ticked}
 use Rattle.power.specs.PowerOn.{empty_chip}
@@ -88,13 +92,13 @@ listing_fits input =
 
 -- so what was written is within the buffer
 pub written_within : (input : List ℕ) {before after : List ℕ} {result : Outcome} (count : ℕ)
-    → ComesTo (list_answer input (length before)) (listing input) before result after → result ≡ Written count → count ≤ length before
+    → ComesTo (list_answer input (length before)) (listing input) before result after → result ≡ Ok count → count ≤ length before
 unfolding list_answer
 written_within input {before} {after} {result} count listed is =
     by (ltb (length before) (room_for (length input))) refl (sym is ∙ listed.answer)
   where
     by : (short : Bool) → ltb (length before) (room_for (length input)) ≡ short
-        → Written count ≡ cond short (Refused OutputShort) (Written (length (listing input))) → count ≤ length before
+        → Ok count ≡ cond short (Err OutputShort) (Ok (length (listing input))) → count ≤ length before
     by true t e = let no : ◌≡◌ {A = ℕ} 0 1 = cc in omega arith
     by false t e =
         let all : count ≡ length (listing input) = cc in
@@ -131,27 +135,49 @@ end_wrote samples ticks p q r fits =
     (wrote_then end (field samples space) p q (omega (arith, length_field samples space))) r
     (omega (arith, length_field ticks newline))
 
-module _ (buffer : List ℕ) (at number : ℕ) (told : Numbers) (answer : Answer) (same : told ≡ numbers answer) where
-  -- an answer that has no line
-  pub answer_unlisted : told.number ≡ 0 → Wrote buffer at (answer_line number answer) buffer at
-  unfolding answer_line
-  answer_unlisted e = rw (eq-eqb _ _ (sym (ap (λ (n : Numbers). n.number) same) ∙ e)) (wrote_none buffer at)
+-- an answer that has no line, and one that has one
+pub unlisted : (buffer : List ℕ) (at number : ℕ) (answer : Answer) → (answer ≡ Nothing) ⊎ (answer ≡ Taken)
+    → Wrote buffer at (answer_line number answer) buffer at
+unfolding answer_line
+unlisted buffer at number answer (inl e) = rw e (wrote_none buffer at)
+unlisted buffer at number answer (inr e) = rw e (wrote_none buffer at)
 
-  pub taken_unlisted : (told.number ≡ 0 → ⊥) → told.number ≡ 4 → Wrote buffer at (answer_line number answer) buffer at
-  unfolding answer_line
-  taken_unlisted some e = rw (sym (ap (λ (n : Numbers). n.number) same) ∙ e) (wrote_none buffer at)
+-- a refusal's number is that of none of the other answers
+above_19 : (refusal : Refusal) → 20 ≤ refusal_number refusal
+above_19 SampleAbove = omega arith
+above_19 NothingAsked = omega arith
+above_19 AddressAbove = omega arith
+above_19 (NibbleAbove place) = omega arith
+above_19 (UndefinedCommand place) = omega arith
+above_19 OutputShort = omega arith
+above_19 NotedCount = omega arith
+above_19 (NotedAbove place) = omega arith
+above_19 Malformed = omega arith
+above_19 MemoryCount = omega arith
+above_19 RunsPastEnd = omega arith
+above_19 TooManyCommands = omega arith
+above_19 UnknownPart = omega arith
 
-  -- and one that has one
-  pub answer_listed : {after : List ℕ} {k : ℕ} → (told.number ≡ 0 → ⊥) → (told.number ≡ 4 → ⊥)
-      → Wrote buffer at (line number told.number told.first told.second) after k
-      → Wrote buffer at (answer_line number answer) after k
-  unfolding answer_line
-  answer_listed none taken w =
-      rw (
-        ← ap (λ (n : Numbers). n.number) same,
-        ne_eqb told.number 0 none,
-        ne_eqb told.number 4 taken,
-        ← ap (λ (n : Numbers). n.first) same,
-        ← ap (λ (n : Numbers). n.second) same,
-      )
-      w
+listed : (number : ℕ) (answer : Answer) → (answer ≡ Nothing → ⊥) → (answer ≡ Taken → ⊥)
+    → answer_line number answer ≡ line number (answer_number answer) (first_detail answer) (second_detail answer)
+unfolding answer_line
+listed number Nothing some more = absurd (some refl)
+listed number Opened some more = refl
+listed number Closed some more = refl
+listed number Dropped some more = refl
+listed number Taken some more = absurd (more refl)
+listed number (Stored address nibble) some more = refl
+listed number (Obeyed code) some more = refl
+listed number (Passed code) some more = refl
+listed number (Offered address bit) some more = refl
+listed number Stray some more = refl
+listed number Unknown some more = refl
+listed number Clash some more = refl
+listed number (Refused refusal) some more =
+    let far : 20 ≤ refusal_number refusal = above_19 refusal in
+    rw (ne_eqb (refusal_number refusal) 0 (omega arith), ne_eqb (refusal_number refusal) 4 (omega arith)) refl
+
+pub listed_by : {a b : List ℕ} {at k : ℕ} {told : Numbers} (number : ℕ) (answer : Answer) → (answer ≡ Nothing → ⊥)
+    → (answer ≡ Taken → ⊥) → told ≡ numbers answer → Wrote a at (line number told.number told.first told.second) b k
+    → Wrote a at (answer_line number answer) b k
+listed_by number answer some more same w = rw (listed number answer some more) (rw same at w)

@@ -1,6 +1,6 @@
 -- The loop of the listing: what is left of the input, written after what stands there, makes the whole listing.
 -- Assumes nothing.
-use mathlib.Core.Path.{◌≡◌, refl, ◌∙◌}
+use mathlib.Core.Path.{◌≡◌, ◌∙◌}
 use mathlib.Core.List.{List}
 use Prim.Native.Nat.{ℕ, ◌+◌, ◌*◌, ◌≤◌, ◌<◌}
 use native.Mathlib.Omega.{arith}
@@ -28,10 +28,6 @@ pub record Going (input before now : List ℕ) (chip : Chip) (at samples ticks i
   pub same : length now ≡ length before
   pub onward : (after : List ℕ) (k : ℕ) → Wrote now at (list_from chip samples ticks i (drop i input)) after k
       → Wrote before 0 (list_from empty_chip 0 0 0 input) after k
-
-pub going_starts : (input before : List ℕ) → Going input before before empty_chip 0 0 0 0
-going_starts input before =
-    record { reach = omega arith; counted = omega arith; room = omega arith; same = refl; onward = λ after k w. w }
 
 module _ {input before now : List ℕ} {chip : Chip} {at samples ticks i : ℕ}
     (g : Going input before now chip at samples ticks i) where

@@ -1,103 +1,86 @@
 // The listing as one function, from the bytes of the input to the bytes of the output. Assumes nothing.
 #![tactic(auto)]
 
-ghost use Rattle.std.specs.Prelude.{◌≡◌, ◌&&◌, ◌+◌, ◌*◌, ◌%◌, ◌≤◌, ◌<◌, leb, length};
+ghost use Rattle.std.specs.Prelude.{◌≡◌, ◌+◌, ◌*◌, ◌%◌, ◌≤◌, ◌<◌, length};
 ghost use Rattle.ground.specs.Outcomes.{ComesTo};
 ghost use Rattle.ground.specs.Written.{Wrote};
 ghost use Rattle.power.specs.PowerOn.{empty_chip};
 ghost use Rattle.listed.specs.Listing.{class_of, field, line, answer_line, bad_line, end_line};
 ghost use Rattle.listed.specs.Listing.{list_from, listing, room_for, list_answer};
 
-use answers::Answer;
-use chip::Chip;
-use ground::{Outcome, Refusal};
+use answers::{Answer, Numbers};
+use ground::Refusal;
 use listed::Class;
 
-fn between(low: u8, byte: u8, high: u8) -> bool
-    ensures { result ≡ (leb low byte && leb byte high) }
-{
-    low <= byte && byte <= high
-}
+// The bytes of the longest input that is listed.
+const LONGEST: usize = 65536;
 
 // What a byte of the input is.
+#[tactic(auto, unfolding(listed::specs::Listing::class_of))]
 fn classify(byte: u8) -> Class
     ensures { result ≡ class_of byte }
 {
-    if between(b'0', byte, b'9') {
-        return Class::Sample(byte - b'0');
+    match byte {
+        b'0'..=b'9' => Class::Sample(byte - b'0'),
+        b'a'..=b'f' => Class::Sample(byte - b'a' + 10),
+        b't' => Class::Tick,
+        b' ' | b'\n' => Class::Skipped,
+        _ => Class::Bad,
     }
-    if between(b'a', byte, b'f') {
-        return Class::Sample(byte - b'a' + 10);
-    }
-    if byte == b't' {
-        return Class::Tick;
-    }
-    if byte == b' ' {
-        return Class::Skipped;
-    }
-    if byte == b'\n' {
-        return Class::Skipped;
-    }
-    Class::Bad
 }
 
-// Bytes at a cursor; the result is the cursor after them.
-fn put_bytes(out: &mut [u8], at: usize, bytes: &[u8]) -> usize
-    requires { at + length bytes.now ≤ length out.old }
-    ensures { Wrote out.old at bytes.now out.new result }
+// Bytes at a cursor; the result is the cursor after them. As `put` of streams, and not shared with it: it would be a public function that
+// asks something of its callers, and the pack has none.
+// Buffer and cursor are no struct: it would lend a buffer that is lent already, and each contract would speak of both all the same.
+fn put_bytes<const N: usize>(out: &mut [u8], at: usize, bytes: [u8; N]) -> usize
+    requires { at + N ≤ length out.old }
+    ensures { Wrote out.old at bytes.entry out.new result }
 {
-    let mut i: usize = 0;
-    while i < bytes.len() {
-        out[at + i] = bytes[i];
-        i += 1;
-    }
-    at + i
+    let end = at + N;
+    out[at..end].copy_from_slice(&bytes);
+    end
 }
 
-// The last digit of a number.
+// The last digit of a number. Decimals are made here and not by std's formatting, which writes to a writer: what is promised of a listing
+// is the bytes that stand in the buffer lent.
 fn digit(n: u32) -> u8
     ensures { result ≡ 48 + n % 10 }
 {
-    48 + (n % 10) as u8
+    b'0' + (n % 10) as u8
 }
 
-// A number in decimal and the byte that ends it.
+// A number in decimal and the byte that ends it. That it has five digits at most each of these functions asks: a type for such numbers
+// would have to prove it wherever one is made, which is at each of the calls.
 fn put_field(out: &mut [u8], at: usize, n: u32, after: u8) -> usize
     requires { (n < 100000) × (at + 6 ≤ length out.old) }
     ensures { Wrote out.old at (field n after) out.new result }
 {
     let ones = digit(n);
-    if n < 10 {
-        return put_bytes(out, at, &[ones, after]);
-    }
     let tens = digit(n / 10);
-    if n < 100 {
-        return put_bytes(out, at, &[tens, ones, after]);
-    }
     let hundreds = digit(n / 100);
-    if n < 1000 {
-        return put_bytes(out, at, &[hundreds, tens, ones, after]);
-    }
     let thousands = digit(n / 1000);
-    if n < 10000 {
-        return put_bytes(out, at, &[thousands, hundreds, tens, ones, after]);
+    match n {
+        0..=9 => put_bytes(out, at, [ones, after]),
+        10..=99 => put_bytes(out, at, [tens, ones, after]),
+        100..=999 => put_bytes(out, at, [hundreds, tens, ones, after]),
+        1000..=9999 => put_bytes(out, at, [thousands, hundreds, tens, ones, after]),
+        _ => put_bytes(
+            out,
+            at,
+            [digit(n / 10000), thousands, hundreds, tens, ones, after],
+        ),
     }
-    put_bytes(
-        out,
-        at,
-        &[digit(n / 10000), thousands, hundreds, tens, ones, after],
-    )
 }
 
 // A line of four numbers.
-fn put_line(out: &mut [u8], at: usize, number: u32, kind: u8, first: u8, second: u8) -> usize
+fn put_line(out: &mut [u8], at: usize, number: u32, told: Numbers) -> usize
     requires { (number < 100000) × (at + 24 ≤ length out.old) }
-    ensures { Wrote out.old at (line number kind first second) out.new result }
+    ensures { Wrote out.old at (line number told.number told.first told.second) out.new result }
 {
-    let a = put_field(out, at, number, b' ');
-    let b = put_field(out, a, kind as u32, b' ');
-    let c = put_field(out, b, first as u32, b' ');
-    put_field(out, c, second as u32, b'\n')
+    let at = put_field(out, at, number, b' ');
+    let at = put_field(out, at, u32::from(told.number), b' ');
+    let at = put_field(out, at, u32::from(told.first), b' ');
+    put_field(out, at, u32::from(told.second), b'\n')
 }
 
 // The line of an answer, where it has one.
@@ -105,14 +88,10 @@ fn put_answer(out: &mut [u8], at: usize, number: u32, answer: Answer) -> usize
     requires { (number < 100000) × (at + 24 ≤ length out.old) }
     ensures { Wrote out.old at (answer_line number answer) out.new result }
 {
-    let told = answer.numbers();
-    if told.number == 0 {
-        return at;
+    match answer {
+        Answer::Nothing | Answer::Taken => at,
+        _ => put_line(out, at, number, Numbers::from(answer)),
     }
-    if told.number == 4 {
-        return at;
-    }
-    put_line(out, at, number, told.number, told.first, told.second)
 }
 
 // The line that stops at a byte.
@@ -120,8 +99,8 @@ fn put_bad(out: &mut [u8], at: usize, offset: u32) -> usize
     requires { (offset < 100000) × (at + 16 ≤ length out.old) }
     ensures { Wrote out.old at (bad_line offset) out.new result }
 {
-    let a = put_bytes(out, at, b"bad ");
-    put_field(out, a, offset, b'\n')
+    let at = put_bytes(out, at, *b"bad ");
+    put_field(out, at, offset, b'\n')
 }
 
 // The last line.
@@ -129,9 +108,9 @@ fn put_end(out: &mut [u8], at: usize, samples: u32, ticks: u32) -> usize
     requires { (samples < 100000) × (ticks < 100000) × (at + 16 ≤ length out.old) }
     ensures { Wrote out.old at (end_line samples ticks) out.new result }
 {
-    let a = put_bytes(out, at, b"end ");
-    let b = put_field(out, a, samples, b' ');
-    put_field(out, b, ticks, b'\n')
+    let at = put_bytes(out, at, *b"end ");
+    let at = put_field(out, at, samples, b' ');
+    put_field(out, at, ticks, b'\n')
 }
 
 // The lines of an input that is not too long.
@@ -139,36 +118,24 @@ fn put_lines(input: &[u8], out: &mut [u8]) -> usize
     requires { (length input.now ≤ 65536) × (24 * length input.now + 16 ≤ length out.old) }
     ensures { Wrote out.old 0 (list_from empty_chip 0 0 0 input.now) out.new result }
 {
-    let empty = power::empty();
-    let mut port = empty.port;
-    let mut settings = empty.settings;
-    let mut at: usize = 0;
-    let mut samples: u32 = 0;
-    let mut ticks: u32 = 0;
-    let mut i: usize = 0;
-    while i < input.len() {
-        match classify(input[i]) {
+    let mut chip = power::empty();
+    let mut at = 0;
+    let mut samples = 0;
+    let mut ticks = 0;
+    for (offset, byte) in input.iter().enumerate() {
+        match classify(*byte) {
             Class::Sample(value) => {
-                let stepped = Chip { port, settings }.step(value);
-                let answer = stepped.answer;
-                let chip = stepped.chip;
-                port = chip.port;
-                settings = chip.settings;
+                let stepped = chip.step(value);
+                chip = stepped.chip;
                 samples += 1;
-                at = put_answer(out, at, samples, answer);
-                i += 1;
+                at = put_answer(out, at, samples, stepped.answer);
             }
             Class::Tick => {
-                settings = ticks::ticked(settings);
+                chip.settings = ticks::ticked(chip.settings);
                 ticks += 1;
-                i += 1;
             }
-            Class::Skipped => {
-                i += 1;
-            }
-            Class::Bad => {
-                return put_bad(out, at, i as u32);
-            }
+            Class::Skipped => {}
+            Class::Bad => return put_bad(out, at, offset as u32),
         }
     }
     put_end(out, at, samples, ticks)
@@ -178,25 +145,22 @@ fn put_lines(input: &[u8], out: &mut [u8]) -> usize
 pub fn room(count: usize) -> usize
     ensures { result ≡ room_for count }
 {
-    if 65536 < count {
-        return 1572880;
-    }
-    24 * count + 16
+    24 * count.min(LONGEST) + 16
 }
 
 // The listing of an input, at the start of `out`, which has at least the room for it.
-pub fn list(input: &[u8], out: &mut [u8]) -> Outcome
+pub fn list(input: &[u8], out: &mut [u8]) -> Result<usize, Refusal>
     ensures { ComesTo
         (list_answer input.now (length out.old))
         (listing input.now)
         out.old result out.new }
 {
     if out.len() < room(input.len()) {
-        return Outcome::Refused(Refusal::OutputShort);
+        return Err(Refusal::OutputShort);
     }
-    let too_long = 65536 < input.len();
+    let too_long = LONGEST < input.len();
     if too_long {
-        return Outcome::Written(put_bytes(out, 0, b"long\n"));
+        return Ok(put_bytes(out, 0, *b"long\n"));
     }
-    Outcome::Written(put_lines(input, out))
+    Ok(put_lines(input, out))
 }

@@ -14,13 +14,16 @@
 // list 160, and at most 600 bytes are lent. Assumes nothing.
 #![tactic(auto)]
 
-ghost use Rattle.std.specs.Prelude.{◌≡◌, ◌≤◌, length, IfOk};
+ghost use Rattle.std.specs.Prelude.{◌≡◌, ◌≤◌};
 ghost use Rattle.vectors.specs.Vectors.{sample_of};
 
 use std::io;
 use std::io::Read;
 
-// The sample of a digit. A byte that is no digit gives a number too, so that there is nothing to refuse.
+// As many bytes of the script as are read. They are read to the heap, as a test may; the listing, which a maker runs, asks for no memory.
+const LONGEST: u64 = 262144;
+
+// The sample of a digit. No `to_digit`: a byte that is no digit gives a number too, so that there is nothing to refuse.
 fn sample_of(byte: u8) -> u8
     ensures { result ≡ sample_of byte }
 {
@@ -45,44 +48,29 @@ fn byte_of(high: u8, low: u8) -> u8 {
 // The number of hex digits, of which the last 16 count: modulo 2^60, which is 1152921504606846976, the last 15 stay before
 // one more comes.
 fn number_of(digits: &[u8]) -> usize {
-    let mut number: usize = 0;
-    let mut i: usize = 0;
-    while i < digits.len() {
-        number = number % 1152921504606846976 * 16 + nibble_of(digits[i]);
-        i += 1;
-    }
-    number
+    digits.iter().fold(0, |number, digit| {
+        number % 1152921504606846976 * 16 + nibble_of(*digit)
+    })
 }
 
 // The number in some columns of a line, or 0 where the line is too short for them.
 fn field(line: &[u8], from: usize, to: usize) -> usize {
-    if from <= to {
-        if to <= line.len() {
-            return number_of(&line[from..to]);
-        }
-    }
-    0
+    line.get(from..to).map_or(0, number_of)
 }
 
 // Puts the bytes that a line lists into a buffer, as many as it takes, and says how many there are.
 fn put_list(line: &[u8], bytes: &mut [u8]) -> usize {
-    let mut i: usize = 0;
-    while i < bytes.len() {
-        if line.len() / 2 <= i + 1 {
-            return i;
-        }
-        bytes[i] = byte_of(line[2 * i + 2], line[2 * i + 3]);
-        i += 1;
+    let digits = line.get(2..).unwrap_or(&[]);
+    for (byte, pair) in bytes.iter_mut().zip(digits.chunks_exact(2)) {
+        *byte = byte_of(pair[0], pair[1]);
     }
-    i
+    bytes.len().min(digits.len() / 2)
 }
 
 // The first bytes of a buffer, or all of them.
 fn first_of(bytes: &mut [u8], count: usize) -> &mut [u8] {
-    if bytes.len() < count {
-        return bytes;
-    }
-    &mut bytes[0..count]
+    let count = count.min(bytes.len());
+    &mut bytes[..count]
 }
 
 // Ends a line.
@@ -111,10 +99,7 @@ fn repeat(rt: &impl Print, line: &[u8]) -> io::Result<()> {
 
 // The letter of a line.
 fn letter_of(line: &[u8]) -> u8 {
-    if line.len() == 0 {
-        return b'#';
-    }
-    line[0]
+    line.first().copied().unwrap_or(b'#')
 }
 
 // A call of a capture.
@@ -128,14 +113,13 @@ fn stepped(record: &mut [u8], byte: u8, ticks: u16) -> u32 {
 // All calls of a capture.
 fn run(rt: &impl Print, line: &[u8], record: &mut [u8]) -> io::Result<()> {
     let ticks = (field(line, 2, 6) % 65536) as u16;
-    let mut i: usize = 7;
-    while i < line.len() {
-        show_returned(rt, stepped(record, line[i], ticks))?;
-        i += 1;
+    for byte in line.get(7..).unwrap_or(&[]) {
+        show_returned(rt, stepped(record, *byte, ticks))?;
     }
     Ok(())
 }
 
+// A match and no table of functions: each letter stands in one place, and the calls take different arguments.
 // The call that a letter stands for, of those that lend a buffer. Another letter calls nothing and comes to 0.
 fn called(letter: u8, line: &[u8], bytes: &[u8], out: &mut [u8]) -> u32 {
     let first = field(line, 6, 22); // the first address, or the part
@@ -171,7 +155,7 @@ fn show_run(rt: &impl Print, line: &[u8], record: &mut [u8], cells: &mut [u8]) -
     show(rt, record)
 }
 
-// Answers a line about a list of bytes, with a buffer to lend.
+// Answers a line about a list of bytes, with a buffer to lend. A match and no table of functions: each letter stands in one place.
 fn answer_about(
     rt: &impl Print,
     line: &[u8],
@@ -199,76 +183,31 @@ fn answer_with(
     answer_about(rt, line, first_of(bytes, count), space)
 }
 
-// Answers a line, given the line of the list that it is about.
+// Answers a line, given the line of the list that it is about. The buffers are of fixed lengths: no call of the script lends more.
 fn answer(rt: &impl Print, line: &[u8], list: &[u8]) -> io::Result<()> {
     let mut bytes = [0u8; 160];
     let mut space = [90u8; 600];
     answer_with(rt, line, list, &mut bytes, &mut space)
 }
 
-// Where the line that starts at a place ends.
-fn line_end(script: &[u8], start: usize) -> usize
-    requires { start ≤ length script.now }
-    ensures lower_bound { start ≤ result }
-    ensures upper_bound { result ≤ length script.now }
-{
-    let mut end = start;
-    while end < script.len() {
-        if script[end] == b'\n' {
-            return end;
-        }
-        end += 1;
-    }
-    end
-}
-
-// The line that starts at a place, or all of the script if it has no such place.
-fn line_at(script: &[u8], start: usize) -> &[u8] {
-    if script.len() < start {
-        return script;
-    }
-    let end = line_end(script, start);
-    &script[start..end]
-}
-
-// Where the list stands that holds from a line on: that line, if it is a list, or where it stood.
-fn list_from(byte: u8, start: usize, before: usize) -> usize {
-    if byte == b'=' {
-        return start;
-    }
-    before
-}
-
-// Answers every line.
+// Answers every line. The list of a line is the last one up to it, and before the first list the script's first line.
 fn answer_all(rt: &impl Print, script: &[u8]) -> io::Result<()> {
-    let mut list: usize = 0;
-    let mut start: usize = 0;
-    while start < script.len() {
-        let end = line_end(script, start);
-        list = list_from(script[start], start, list);
-        answer(rt, &script[start..end], line_at(script, list))?;
-        start = end + 1;
+    if script.is_empty() {
+        return Ok(());
+    }
+    let lines = script.strip_suffix(b"\n").unwrap_or(script);
+    let mut list: &[u8] = &[];
+    for (number, line) in lines.split(|byte| *byte == b'\n').enumerate() {
+        if number == 0 || letter_of(line) == b'=' {
+            list = line;
+        }
+        answer(rt, line, list)?;
     }
     Ok(())
 }
 
-// Fills a buffer from standard input as far as that goes, and says how many bytes came.
-fn read_full(reader: &mut impl Read, bytes: &mut [u8]) -> io::Result<usize>
-    ensures { IfOk result (λ count. count ≤ length bytes.new) }
-{
-    let mut done = 0;
-    while done < bytes.len() {
-        let came = reader.read(&mut bytes[done..])?;
-        if came == 0 {
-            break;
-        }
-        done += came;
-    }
-    Ok(done)
-}
-
 fn main(rt: HostRuntime) -> io::Result<()> {
-    let mut input = [0u8; 262144];
-    let count = read_full(&mut rt.reader(), &mut input)?;
-    answer_all(&rt, &input[..count])
+    let mut script = Vec::new(rt.alloc());
+    rt.reader().take(LONGEST).read_to_end(&mut script)?;
+    answer_all(&rt, &script)
 }

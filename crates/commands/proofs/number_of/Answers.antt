@@ -4,15 +4,8 @@
 use mathlib.Core.Path.{refl}
 use native.Mathlib.Omega.{arith}
 use Rattle.commands.specs.Commands.{code_meaning, byte_meaning}
-use Rattle.commands.proofs.TableLaws.{past_undefined, entry_there, table_follows}
+use Rattle.commands.proofs.TableLaws.{table_follows}
 use Rattle.commands.proofs.number_of.Goals as goal
-
-pub returns-then-code-gt511 : goal.returns-then-code-gt511
-returns-then-code-gt511 c = simp (past_undefined c.args.part c.args.code (omega arith))
-
-pub bounds-at : goal.bounds-at
-bounds-at c =
-    rw c.entry_of-at.ensures (entry_there c.args.part c.args.code (omega arith))
 
 pub returns : goal.returns
 unfolding code_meaning byte_meaning

@@ -1,56 +1,51 @@
 -- `driver::commands` meets its contract: each refusal is the first that applies, and else the stream is sent. Assumes nothing.
-use mathlib.Core.Path.{◌∙◌, sym}
-use native.Mathlib.Omega.{arith}
-use borrow.Author.Tests.{lt-ltb, le-ltb, eq-eqb, ne_eqb}
-use lib.ListN.{length}
+use Rattle.std.specs.Prelude.{Some, None}
+use Rattle.std.proofs.lemmas.Result.{err_from_is_err_and}
+use mathlib.Core.Path.{◌≡◌, ◌∙◌, sym}
+use borrow.Author.Tests.{lt-ltb, le-ltb}
 use Rattle.ground.specs.declared.Part.TheVariants.{Ht}
+use Rattle.ground.specs.declared.Refusal.TheVariants.{UnknownPart}
 use Rattle.ground.proofs.OutcomesLaws.{refuses}
 use Rattle.ground.proofs.PartsLaws.{part_none, part_found}
+use Rattle.ground.proofs.PlacesLaws.{position_found}
 use Rattle.streams.proofs.SentLaws.{sends_due}
-use Rattle.driver.specs.Refusals.{most_commands, command_answer}
+use Rattle.commands.specs.Commands.{command_fault}
+use Rattle.driver.specs.Refusals.{command_answer}
 use Rattle.driver.proofs.commands.Goals as goal
 
-pub returns-in_default : goal.returns-in_default
+pub returns-in_err-part : goal.returns-in_err-part
 unfolding command_answer
-returns-in_default c = refuses (simp (part_none _ (sym c.part_of.ensures ∙ c.in_default.is)))
+returns-in_err-part c =
+    let p = err_from_is_err_and c.from_residual.result c.from_residual.ensures.1 in
+    let none = c.in_err-part.ensures.ok_part in
+    let why : c.in_err-part.field-0.0 ≡ UnknownPart = cc (rw none at c.in_err-part.ensures.value) in
+    rw (p.1, p.2, why) (refuses (simp (part_none _ (sym c.part_of.ensures ∙ none))))
 
-pub returns-then-codes-eq0 : goal.returns-then-codes-eq0
+pub returns-then-is_empty : goal.returns-then-is_empty
 unfolding command_answer
-returns-then-codes-eq0 c =
-    let part = part_found _ _ Ht (sym c.part_of.ensures ∙ c.in-Known.is) in
-    refuses (simp (part.0, eq-eqb (length c.args.codes.now) 0 (omega arith)))
+returns-then-is_empty c =
+    let part = part_found _ _ Ht (sym c.part_of.ensures ∙ c.in_ok-part.ensures.ok_part) in
+    refuses (simp (part.0, sym c.is_empty.ensures, c.if-is_empty.true))
 
 pub returns-then-codes-gt-MOST_COMMANDS : goal.returns-then-codes-gt-MOST_COMMANDS
 unfolding command_answer
 returns-then-codes-gt-MOST_COMMANDS c =
-    let part = part_found _ _ Ht (sym c.part_of.ensures ∙ c.in-Known.is) in
-    refuses (simp (part.0, ne_eqb _ 0 c.if-codes-eq0.false, lt-ltb most_commands (length c.args.codes.now) (omega arith)))
+    let part = part_found _ _ Ht (sym c.part_of.ensures ∙ c.in_ok-part.ensures.ok_part) in
+    let most = lt-ltb _ _ c.if-codes-gt-MOST_COMMANDS.true in
+    refuses (simp (part.0, sym c.is_empty.ensures, c.if-is_empty.false, most))
 
-pub returns-then-place-codes : goal.returns-then-place-codes
+pub returns-in-Some : goal.returns-in-Some
 unfolding command_answer
-returns-then-place-codes c =
-    let part = part_found _ _ Ht (sym c.part_of.ensures ∙ c.in-Known.is) in
-    refuses
-    (simp (
-      part.0,
-      part.1,
-      ne_eqb _ 0 c.if-codes-eq0.false,
-      le-ltb most_commands (length c.args.codes.now) (omega arith),
-      sym c.first_undefined-place.ensures,
-      lt-ltb _ _ c.if-place-codes.true,
-    ))
+returns-in-Some c =
+    let part = part_found _ _ Ht (sym c.part_of.ensures ∙ c.in_ok-part.ensures.ok_part) in
+    let most = le-ltb _ _ c.if-codes-gt-MOST_COMMANDS.false in
+    let found = position_found (command_fault c.in_ok-part.part) c.args.codes.now (Some c.in-Some.place) c.in-Some.ensures in
+    refuses (simp (part.0, part.1, sym c.is_empty.ensures, c.if-is_empty.false, most, found.0) (simp found.1))
 
 pub returns : goal.returns
 unfolding command_answer
 returns c =
-    let part = part_found _ _ Ht (sym c.part_of.ensures ∙ c.in-Known.is) in
-    sends_due
-    (simp (
-      part.0,
-      part.1,
-      ne_eqb _ 0 c.if-codes-eq0.false,
-      le-ltb most_commands (length c.args.codes.now) (omega arith),
-      sym c.first_undefined-place.ensures,
-      le-ltb _ _ c.if-place-codes.false,
-    ))
-    c.commands.ensures
+    let part = part_found _ _ Ht (sym c.part_of.ensures ∙ c.in_ok-part.ensures.ok_part) in
+    let most = le-ltb _ _ c.if-codes-gt-MOST_COMMANDS.false in
+    let none = position_found (command_fault c.in_ok-part.part) c.args.codes.now None (sym c.in_default.is ∙ c.first_undefined.ensures) in
+    sends_due (simp (part.0, part.1, sym c.is_empty.ensures, c.if-is_empty.false, most, none)) c.commands.ensures

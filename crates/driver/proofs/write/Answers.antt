@@ -1,58 +1,33 @@
 -- `driver::write` meets its contract: each refusal is the first that applies, and else the stream is sent. Assumes nothing.
-use mathlib.Core.Path.{sym}
-use Prim.Native.Nat.{◌+◌}
-use native.Mathlib.Omega.{arith}
-use borrow.Author.Tests.{lt-ltb, le-ltb, eq-eqb, ne_eqb}
+use Rattle.std.specs.Prelude.{Some, None}
+use Rattle.std.proofs.lemmas.Result.{err_from_is_err_and}
+use mathlib.Core.Path.{◌∙◌, sym}
 use lib.ListN.{length}
-use Rattle.ground.specs.Sizes.{addresses}
 use Rattle.ground.proofs.OutcomesLaws.{refuses}
+use Rattle.ground.proofs.PlacesLaws.{position_found}
 use Rattle.streams.proofs.SentLaws.{sends_due}
-use Rattle.driver.specs.Refusals.{last_address, write_answer}
+use Rattle.driver.specs.Ranges.{range_refusals}
+use Rattle.driver.specs.Refusals.{nibble_fault, write_answer}
+use Rattle.driver.proofs.LadderLaws.{ladder_refused, ladder_passed}
 use Rattle.driver.proofs.write.Goals as goal
 
-pub returns-then-nothing : goal.returns-then-nothing
+pub returns-in_err-check_range : goal.returns-in_err-check_range
 unfolding write_answer
-returns-then-nothing c = refuses (simp (eq-eqb (length c.args.nibbles.now) 0 (omega arith)))
+returns-in_err-check_range c =
+    let p = err_from_is_err_and c.from_residual.result c.from_residual.ensures.1 in
+    let range = range_refusals c.args.first (length c.args.nibbles.now) in
+    rw (p.1, p.2) (refuses (ladder_refused range _ c.in_err-check_range.ensures))
 
-pub returns-then-first-ge-ADDRESSES : goal.returns-then-first-ge-ADDRESSES
+pub returns-in-Some : goal.returns-in-Some
 unfolding write_answer
-returns-then-first-ge-ADDRESSES c =
-    refuses (simp (ne_eqb _ 0 c.if-nothing.false, lt-ltb last_address c.args.first (omega arith)))
-
-pub returns-then-first-nibbles : goal.returns-then-first-nibbles
-unfolding write_answer
-returns-then-first-nibbles c =
-    let first = c.args.first in
-    refuses
-    (simp (
-      ne_eqb _ 0 c.if-nothing.false,
-      le-ltb last_address first (omega arith),
-      lt-ltb addresses (first + length c.args.nibbles.now) (omega arith),
-    ))
-
-pub returns-then-place-nibbles : goal.returns-then-place-nibbles
-unfolding write_answer
-returns-then-place-nibbles c =
-    let first = c.args.first in
-    refuses
-    (simp (
-      ne_eqb _ 0 c.if-nothing.false,
-      le-ltb last_address first (omega arith),
-      le-ltb addresses (first + length c.args.nibbles.now) (omega arith),
-      sym c.first_above-place.ensures,
-      lt-ltb _ _ c.if-place-nibbles.true,
-    ))
+returns-in-Some c =
+    let nibbles = c.args.nibbles.now in
+    let found = position_found nibble_fault nibbles (Some c.in-Some.place) c.in-Some.ensures in
+    refuses (ladder_passed (range_refusals c.args.first (length nibbles)) _ c.in_ok-check_range.ensures ∙ simp found.0 (simp found.1))
 
 pub returns : goal.returns
 unfolding write_answer
 returns c =
-    let first = c.args.first in
-    sends_due
-    (simp (
-      ne_eqb _ 0 c.if-nothing.false,
-      le-ltb last_address first (omega arith),
-      le-ltb addresses (first + length c.args.nibbles.now) (omega arith),
-      sym c.first_above-place.ensures,
-      le-ltb _ _ c.if-place-nibbles.false,
-    ))
-    c.write.ensures
+    let nibbles = c.args.nibbles.now in
+    let none = position_found nibble_fault nibbles None (sym c.in_default.is ∙ c.first_above.ensures) in
+    sends_due (ladder_passed (range_refusals c.args.first (length nibbles)) _ c.in_ok-check_range.ensures ∙ simp none) c.write.ensures

@@ -7,16 +7,16 @@ use Rattle.rehearsal.proofs.rehearse.Goals as goal
 
 pub slice_bounds-fed-end : goal.slice_bounds-fed-end
 slice_bounds-fed-end c =
-    count_fits c.args.first c.args.nibbles.now c.write-answer.ensures c.in-Written.is
+    count_fits c.args.first c.args.nibbles.now c.write-answer.ensures c.in-Ok.is
 
-pub slice_bounds-fed-end-in-Written : goal.slice_bounds-fed-end-in-Written
-slice_bounds-fed-end-in-Written c =
-    sym (length-take-le _ _ (count_fits c.args.first c.args.nibbles.now c.write-answer.ensures c.in-Written.is))
+pub slice_bounds-fed-end-in-Ok : goal.slice_bounds-fed-end-in-Ok
+slice_bounds-fed-end-in-Ok c =
+    sym (length-take-le _ _ (count_fits c.args.first c.args.nibbles.now c.write-answer.ensures c.in-Ok.is))
 
-pub returns-in-Written : goal.returns-in-Written
-returns-in-Written c =
-    rehearses c.args.first c.args.nibbles.now c.write-answer.ensures c.in-Written.is c.fed-chip.ensures
+pub returns-in-Ok : goal.returns-in-Ok
+returns-in-Ok c =
+    rehearses c.args.first c.args.nibbles.now c.write-answer.ensures c.in-Ok.is c.fed-chip.ensures
 
-pub returns-in-Refused : goal.returns-in-Refused
-returns-in-Refused c =
-    refuses c.args.first c.args.nibbles.now c.write-answer.ensures c.in-Refused.is
+pub returns-in-Err : goal.returns-in-Err
+returns-in-Err c =
+    refuses c.args.first c.args.nibbles.now c.write-answer.ensures c.in-Err.is

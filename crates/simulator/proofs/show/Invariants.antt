@@ -1,7 +1,7 @@
 -- `simulator::show` meets its contract: the cells before `i` stand in the buffer, and the rest is as it was. Assumes nothing.
 use mathlib.Core.Path.{◌≡◌}
 use mathlib.Core.List.{List, map}
-use Prim.Native.Nat.{ℕ, ◌-◌, ◌≤◌}
+use Prim.Native.Nat.{ℕ, ◌≤◌}
 use lib.Bits.{bit_and}
 use lib.ListN.{take}
 use lib.Seq.{paste}
@@ -14,6 +14,3 @@ cells mask bytes = map (λ n. bit_and n mask) (take addresses bytes)
 
 abbrev pub invariant-loop-i : goal.invariant-loop-i
 invariant-loop-i l = (l.i ≤ addresses) × (l.out ≡ paste l.initial.out 0 (cells l.mask l.bytes) l.i)
-
-abbrev pub decreases-loop-i : goal.decreases-loop-i
-decreases-loop-i l = addresses - l.i

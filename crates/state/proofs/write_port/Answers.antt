@@ -1,20 +1,31 @@
--- `state::write_port` meets its contract: the memory, and the frame after it. Assumes nothing.
-use borrow.Author.Tests.{lt-ltb, le-ltb}
+-- `state::write_port` meets its contract: the frame, and the memory before it. Assumes nothing.
+use Rattle.std.proofs.lemmas.Result.{err_from_is_err_and}
+use mathlib.Core.Path.{◌∙◌, sym, refl, ap}
+use lib.ListN.{length}
+use native.Mathlib.Omega.{arith}
+use borrow.Author.Tests.{le-ltb}
 use Rattle.ground.specs.Outcomes.{written_as}
+use Rattle.phases.specs.Frame.{frame_over}
 use Rattle.state.specs.Answers.{port_over}
-use Rattle.state.proofs.RecordLaws.{put_port}
+use Rattle.state.proofs.RecordLaws.{room_found, short_found, frame_length, port_put}
 use Rattle.state.proofs.write_port.Goals as goal
 
-pub returns-then-out-lt-RECORD_LENGTH : goal.returns-then-out-lt-RECORD_LENGTH
-unfolding written_as port_over
-returns-then-out-lt-RECORD_LENGTH c = (simp (lt-ltb _ _ c.if-out-lt-RECORD_LENGTH.true), simp (lt-ltb _ _ c.if-out-lt-RECORD_LENGTH.true))
+pub returns-in_err-write_frame : goal.returns-in_err-write_frame
+unfolding written_as port_over frame_over
+returns-in_err-write_frame c =
+    let p = err_from_is_err_and c.from_residual.result c.from_residual.ensures.1 in
+    let short = short_found 8 c.args.out.now _ (sym c.in_err-write_frame.was ∙ c.write_frame.ensures.0) in
+    (rw (p.1, p.2, short.0, short.1) refl, c.write_frame.ensures.1 ∙ rw short.1 refl)
+
+pub put_memory-requires : goal.put_memory-requires
+put_memory-requires c =
+    let room = room_found 8 _ c.args.out.now (sym c.in_ok-write_frame.was ∙ c.write_frame.ensures.0) in
+    let frame = c.frame_of.result in
+    omega (arith, ap length c.write_frame.ensures.1, frame_length frame.levels frame.phase frame.line c.args.out.now room)
 
 pub returns : goal.returns
-unfolding written_as port_over
+unfolding written_as
 returns c =
-    let start = c.args in (
-      simp (le-ltb _ _ c.if-out-lt-RECORD_LENGTH.false),
-      rw (le-ltb _ _ c.if-out-lt-RECORD_LENGTH.false)
-          (put_port start.port start.out.now _ _ c.put_memory.ensures.0 c.if-out-lt-RECORD_LENGTH.false c.put_memory.ensures.1
-          c.write_frame.ensures.1),
-    )
+    let room = room_found 8 _ c.args.out.now (sym c.in_ok-write_frame.was ∙ c.write_frame.ensures.0) in
+    let begun = c.write_frame.ensures.1 ∙ rw c.frame_of.ensures refl in
+    (rw (le-ltb _ _ room) refl, port_put c.args.port c.args.out.now _ _ c.put_memory.ensures.0 room begun c.put_memory.ensures.1)

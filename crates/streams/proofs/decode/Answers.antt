@@ -1,41 +1,37 @@
 -- `streams::decode` meets its contract: the nibbles so far and those of the notes from the next four on make the whole.
 -- Assumes nothing.
 use mathlib.Core.List.{[], ◌∷◌}
-use Prim.Native.Nat.{◌+◌, ◌*◌}
+use mathlib.Core.Path.{◌≡◌, ◌∙◌, sym}
 use native.Mathlib.Omega.{arith}
-use lib.ListN.{drop}
-use Rattle.streams.specs.Lengths.{nibble_notes}
+use borrow.Author.Tests.{lt-ltb, le-ltb}
 use Rattle.streams.specs.Streams.{decoded, lowest_bits}
 use Rattle.streams.proofs.SentLaws.{sends_none, sends_whole}
-use Rattle.streams.proofs.StreamsLaws.{lowest_length, decoded_next, decoded_end}
-use Rattle.streams.proofs.Writing.{wrote_one, writing_starts, writing_same}
-use Rattle.streams.proofs.Writing.{writing_part, writing_more, writing_ends}
+use Rattle.streams.proofs.StreamsLaws.{lowest_length, decoded_next, decoded_few}
+use Rattle.streams.proofs.Writing.{writing_starts, writing_part, writing_more, writing_ends}
 use Rattle.streams.proofs.decode.Goals as goal
 
 pub returns-then-out-count : goal.returns-then-out-count
-returns-then-out-count c = sends_none (simp lowest_length (omega arith))
+returns-then-out-count c = sends_none (sym (lowest_length c.args.noted.now)) (lt-ltb _ _ c.if-out-count.true)
 
-pub loop-at-init : goal.loop-at-init
-loop-at-init c = (omega arith, writing_starts _ _ _ (simp lowest_length (omega arith)))
+pub loop-notes-init : goal.loop-notes-init
+loop-notes-init c =
+    let all : c.into_iter-notes-iterator.result.rest.now ≡ c.args.noted.now = cc in
+    (cc, rw all (writing_starts _ _ _ (omega (arith, lowest_length c.args.noted.now))))
 
-pub bounds-out-at : goal.bounds-out-at
-bounds-out-at c =
-    omega (arith, writing_same c.loop-at.invariant.1)
+pub put-at-requires : goal.put-at-requires
+put-at-requires c =
+    let step = c.in-Some.ensures.steps.1 in
+    let next = decoded_next _ _ _ _ step.0 (step.1 ∙ c.loop-notes.invariant.0) c.nibble_of-nibble.ensures in
+    (omega arith, writing_part (c.nibble_of-nibble.result ∷ []) (decoded (lowest_bits c.next.new.self.rest.now)) c.loop-notes.invariant.1 next)
 
-pub loop-at-preserved : goal.loop-at-preserved
-loop-at-preserved c =
-    let noted = c.args.noted.now in
-    let at = c.loop-at.at in
-    let nibble = c.nibble_of.result in
-    let more = decoded (lowest_bits (drop (nibble_notes * (at + 1)) noted)) in
-    let next = decoded_next noted at nibble (omega arith) c.nibble_of.ensures in
-    let wrote = wrote_one _ _ _ (writing_part (nibble ∷ []) more c.loop-at.invariant.1 next) in
-    (omega arith, writing_more (nibble ∷ []) more c.loop-at.invariant.1 next wrote)
-
-pub shape_of-out : goal.shape_of-out
-shape_of-out c = writing_same c.loop-at.invariant.1
+pub loop-notes-preserved : goal.loop-notes-preserved
+loop-notes-preserved c =
+    let step = c.in-Some.ensures.steps.1 in
+    let next = decoded_next _ _ _ _ step.0 (step.1 ∙ c.loop-notes.invariant.0) c.nibble_of-nibble.ensures in
+    (c.in-Some.ensures.steps.0 ∙ c.loop-notes.invariant.0, writing_more (c.nibble_of-nibble.result ∷ []) (decoded (lowest_bits c.next.new.self.rest.now)) c.loop-notes.invariant.1 next c.put-at.ensures)
 
 pub returns : goal.returns
 returns c =
-    let left = decoded_end c.args.noted.now c.loop-at.at (omega arith) in
-    sends_whole (simp lowest_length (omega arith)) (writing_ends c.loop-at.invariant.1 left)
+    let step = c.in-None.ensures.steps in
+    let wrote = writing_ends c.loop-notes.invariant.1 (decoded_few c.loop-notes.notes-iterator.rest.now (omega arith)) in
+    sends_whole (sym (lowest_length c.args.noted.now)) (le-ltb _ _ c.if-out-count.false) wrote

@@ -1,68 +1,35 @@
--- `streams::write` meets its contract: there is no room, or the opening, the ID with the address and the nibbles are written.
+-- `streams::write` meets its contract: there is no room, or the opening, the ID, the address and the nibbles are written.
 -- Assumes nothing.
 use mathlib.Core.Path.{◌∙◌, sym}
-use Prim.Native.Nat.{◌+◌, ◌*◌, ◌≤◌}
+use mathlib.Core.List.{◌++◌}
 use native.Mathlib.Omega.{arith}
-use borrow.Author.Tests.{ltb-true, ltb-false}
-use lib.ListN.{length, length-set}
-use Rattle.streams.specs.Lengths.{transfer_frame, nibble_samples}
-use Rattle.streams.specs.Streams.{send_nibbles, write_stream}
-use Rattle.streams.proofs.BitsLaws.{write_bits}
-use Rattle.streams.proofs.Sending.{sending_starts, sending_room, sending_more, sending_end, sending_closes}
+use borrow.Author.Tests.{ltb-false}
+use Rattle.streams.specs.Streams.{send_nibbles, write_stream, opening, send_bits, write_id, address_bits}
+use Rattle.ground.proofs.WrittenLaws.{wrote_then}
+use Rattle.streams.proofs.Sending.{sending_starts, sending_more, sending_closes}
 use Rattle.streams.proofs.SentLaws.{sends_none, sends_whole}
 use Rattle.streams.proofs.StreamsLaws.{nibbles_by_items, nibbles_length, write_length}
-use Rattle.streams.proofs.Writing.{wrote_three, writing_same}
 use Rattle.streams.proofs.write.Goals as goal
 
 pub returns-then-short : goal.returns-then-short
-returns-then-short c =
-    let less = ltb-true _ _ (sym c.short.ensures ∙ c.if-short.true) in
-    sends_none (simp write_length less)
+returns-then-short c = sends_none (sym (write_length _ _)) (sym c.short.ensures ∙ c.if-short.true)
 
-pub put_pair-opened-requires : goal.put_pair-opened-requires
-put_pair-opened-requires c =
-    let room : transfer_frame + nibble_samples * length c.args.nibbles.now ≤ length c.args.out.now =
-    ltb-false _ _ (sym c.short.ensures ∙ c.if-short.false) in
-    omega arith
+pub loop-nibble-init : goal.loop-nibble-init
+loop-nibble-init c =
+    let nibbles = c.args.nibbles.now in
+    let room = ltb-false _ _ (sym c.short.ensures ∙ c.if-short.false) in
+    sending_starts send_nibbles nibbles _ _ (omega (arith, nibbles_length nibbles))
 
-pub put_nine-at-requires : goal.put_nine-at-requires
-put_nine-at-requires c =
-    let room : transfer_frame + nibble_samples * length c.args.nibbles.now ≤ length c.args.out.now =
-    ltb-false _ _ (sym c.short.ensures ∙ c.if-short.false) in
-    omega (arith, c.put_pair-opened.ensures.cursor)
-
-pub loop-i-init : goal.loop-i-init
-loop-i-init c =
-    let room : transfer_frame + nibble_samples * length c.args.nibbles.now ≤ length c.args.out.now =
-    ltb-false _ _ (sym c.short.ensures ∙ c.if-short.false) in
-    sending_starts send_nibbles c.args.nibbles.now _ _
-    (omega (arith, nibbles_length c.args.nibbles.now, c.put_pair-opened.ensures.cursor, c.put_nine-at.ensures.cursor))
-
-pub put_nibble-at-requires : goal.put_nibble-at-requires
-put_nibble-at-requires c = sending_room nibbles_by_items c.loop-i.invariant (omega arith)
-
-pub loop-i-preserved : goal.loop-i-preserved
-loop-i-preserved c =
-    sending_more nibbles_by_items c.loop-i.invariant (omega arith) c.put_nibble-at.ensures
-
-pub bounds-out-at : goal.bounds-out-at
-bounds-out-at c = omega (arith, sending_end nibbles_by_items c.loop-i.invariant (omega arith))
-
-pub overflow_add-sent : goal.overflow_add-sent
-overflow_add-sent c =
-    omega (arith, sending_end nibbles_by_items c.loop-i.invariant (omega arith), writing_same c.loop-i.invariant.writing, c.well_formed)
-
-pub shape_of-out : goal.shape_of-out
-shape_of-out c = simp length-set (omega (arith, writing_same c.loop-i.invariant.writing))
+pub loop-nibble-preserved : goal.loop-nibble-preserved
+loop-nibble-preserved c =
+    sending_more nibbles_by_items c.loop-nibble.invariant 0 (omega arith) (rw c.nibble_bits.ensures at c.put_bits-at.ensures)
 
 pub returns : goal.returns
 unfolding write_stream
 returns c =
-    let room : transfer_frame + nibble_samples * length c.args.nibbles.now ≤ length c.args.out.now =
-    ltb-false _ _ (sym c.short.ensures ∙ c.if-short.false) in
-    let first = c.args.first in
-    let body = sending_closes nibbles_by_items c.loop-i.invariant (omega arith) in
-    sends_whole
-    (simp write_length room)
-    (wrote_three c.put_pair-opened.ensures (rw (write_bits first (omega arith)) at c.put_nine-at.ensures) body
-    (omega (arith, nibbles_length c.args.nibbles.now)))
+    let nibbles = c.args.nibbles.now in
+    let room = sym c.short.ensures ∙ c.if-short.false in
+    let body = sending_closes nibbles_by_items c.loop-nibble.invariant (omega arith) c.put-written.ensures in
+    sends_whole (sym (write_length c.args.first nibbles)) room
+    (wrote_then (opening ++ send_bits (write_id ++ address_bits c.args.first)) (send_nibbles nibbles) c.open_transfer-at.ensures body
+    (omega (arith, nibbles_length nibbles, ltb-false _ _ room)))

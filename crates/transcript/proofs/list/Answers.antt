@@ -1,4 +1,5 @@
 -- `transcript::list` meets its contract: by the lengths it is refused, `long`, or the lines. Assumes nothing.
+use Rattle.std.specs.Prelude.{Ok, Err}
 use mathlib.Core.Path.{◌≡◌, ap, sym, ◌∙◌}
 use mathlib.Core.List.{List}
 use Prim.Native.Nat.{ℕ, ◌≤◌, ◌<◌}
@@ -6,7 +7,6 @@ use native.Mathlib.Omega.{arith}
 use borrow.Author.Tests.{lt-ltb, le-ltb}
 use lib.ListN.{length}
 use Rattle.ground.specs.declared.Refusal.TheVariants.{OutputShort}
-use Rattle.ground.specs.declared.Outcome.TheVariants.{Written, Refused}
 use Rattle.ground.specs.Outcomes.{ComesTo}
 use Rattle.ground.specs.Written.{over, Wrote}
 use Rattle.ground.proofs.OutcomesLaws.{refuses, succeeds}
@@ -15,13 +15,13 @@ use Rattle.listed.specs.Listing.{long, list_from, listing, room_for, list_answer
 use Rattle.transcript.proofs.list.Goals as goal
 
 too_short : (input buffer : List ℕ) → length buffer < room_for (length input)
-    → ComesTo (list_answer input (length buffer)) (listing input) buffer (Refused OutputShort) buffer
+    → ComesTo (list_answer input (length buffer)) (listing input) buffer (Err OutputShort) buffer
 unfolding list_answer
 too_short input buffer h = refuses (simp (lt-ltb (length buffer) (room_for (length input)) h))
 
 written : (input text : List ℕ) {before after : List ℕ} {count : ℕ}
     → room_for (length input) ≤ length before → listing input ≡ text → Wrote before 0 text after count
-    → ComesTo (list_answer input (length before)) (listing input) before (Written count) after
+    → ComesTo (list_answer input (length before)) (listing input) before (Ok count) after
 unfolding list_answer
 written input text {before} {after} {count} h e w =
     succeeds (simp (le-ltb (length before) (room_for (length input)) h)) (omega (arith, w.cursor, ap length e))

@@ -1,19 +1,10 @@
--- `transcript::put_answer` meets its contract: by the answer's number there is no line, or the line of its numbers.
--- Assumes nothing.
-use Rattle.transcript.proofs.LineLaws.{answer_unlisted, taken_unlisted, answer_listed}
+-- `transcript::put_answer` meets its contract: an answer has no line, or the line of its numbers. Assumes nothing.
+use Rattle.transcript.proofs.LineLaws.{unlisted, listed_by}
 use Rattle.transcript.proofs.put_answer.Goals as goal
 
-pub returns-then-told-eq0 : goal.returns-then-told-eq0
-returns-then-told-eq0 c =
-    answer_unlisted c.args.out.now c.args.at c.args.number c.numbers-told.result c.args.answer
-    c.numbers-told.ensures c.if-told-eq0.true
+pub returns-in-Nothing : goal.returns-in-Nothing
+returns-in-Nothing c = unlisted c.args.out.now c.args.at c.args.number c.args.answer c.in-Nothing.is
 
-pub returns-then-told-eq4 : goal.returns-then-told-eq4
-returns-then-told-eq4 c =
-    taken_unlisted c.args.out.now c.args.at c.args.number c.numbers-told.result c.args.answer
-    c.numbers-told.ensures c.if-told-eq0.false c.if-told-eq4.true
-
-pub returns : goal.returns
-returns c =
-    answer_listed c.args.out.now c.args.at c.args.number c.numbers-told.result c.args.answer
-    c.numbers-told.ensures c.if-told-eq0.false c.if-told-eq4.false c.put_line.ensures
+pub returns-in_default : goal.returns-in_default
+returns-in_default c =
+    listed_by c.args.number c.args.answer c.in_default.not-Nothing c.in_default.not-Taken c.from.ensures c.put_line.ensures

@@ -4,5 +4,5 @@ use Rattle.transcript.proofs.put_bad.Goals as goal
 
 pub returns : goal.returns
 returns c =
-    bad_wrote c.args.offset c.put_bytes-a.ensures c.put_field.ensures
+    bad_wrote c.args.offset c.put_bytes-at.ensures c.put_field.ensures
     c.requires.1

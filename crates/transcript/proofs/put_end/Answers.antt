@@ -12,5 +12,5 @@ put_field-requires c =
 
 pub returns : goal.returns
 returns c =
-    end_wrote c.args.samples c.args.ticks c.put_bytes-a.ensures
-    c.put_field-b.ensures c.put_field.ensures c.requires.2
+    end_wrote c.args.samples c.args.ticks c.put_bytes-at.ensures
+    c.put_field-at.ensures c.put_field.ensures c.requires.2

@@ -5,26 +5,26 @@ use Rattle.transcript.proofs.DecimalLaws.{length_field}
 use Rattle.transcript.proofs.LineLaws.{line_wrote}
 use Rattle.transcript.proofs.put_line.Goals as goal
 
-pub put_field-b-requires : goal.put_field-b-requires
-put_field-b-requires c =
+pub put_field-at-requires-2 : goal.put_field-at-requires-2
+put_field-at-requires-2 c =
     let short : _ = length_field c.args.number space in
     (omega arith, omega arith)
 
-pub put_field-c-requires : goal.put_field-c-requires
-put_field-c-requires c =
+pub put_field-at-requires-3 : goal.put_field-at-requires-3
+put_field-at-requires-3 c =
     let short : _ = length_field c.args.number space in
-    let short-kind : _ = length_field c.args.kind space in
+    let short-kind : _ = length_field c.from.result space in
     (omega arith, omega arith)
 
 pub put_field-requires : goal.put_field-requires
 put_field-requires c =
     let short : _ = length_field c.args.number space in
-    let short-kind : _ = length_field c.args.kind space in
-    let short-first : _ = length_field c.args.first space in
+    let short-kind : _ = length_field c.from.result space in
+    let short-first : _ = length_field c.from-2.result space in
     (omega arith, omega arith)
 
 pub returns : goal.returns
 returns c =
-    line_wrote c.args.number c.args.kind c.args.first c.args.second
-    c.put_field-a.ensures c.put_field-b.ensures
-    c.put_field-c.ensures c.put_field.ensures c.requires.1
+    rw (← c.from.ensures, ← c.from-2.ensures, ← c.from-3.ensures)
+    (line_wrote c.args.number _ _ _ c.put_field-at.ensures c.put_field-at-2.ensures c.put_field-at-3.ensures c.put_field.ensures
+    c.requires.1)

@@ -1,5 +1,0 @@
--- `phases::Phase::position` meets its contract. Assumes nothing.
-use Rattle.phases.proofs.Phase.position.Goals as goal
-
-pub returns-in-Writing : goal.returns-in-Writing
-returns-in-Writing c = simp c.in-Writing.is
