@@ -38,9 +38,7 @@ pub fn empty() -> Chip
 pub fn power_on(number: usize, memory: &[u8]) -> Result<Chip, Refusal>
     ensures { result ≡ powered_on number memory.now }
 {
-    let Some(part) = ground::part_of(number) else {
-        return Err(Refusal::UnknownPart);
-    };
+    let part = ground::part_of(number).ok_or(Refusal::UnknownPart)?;
     let miscounted = memory.len() != ADDRESSES;
     if miscounted {
         return Err(Refusal::MemoryCount);
