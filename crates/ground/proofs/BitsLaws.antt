@@ -6,7 +6,6 @@ use native.Mathlib.Nat.{div-eq_of_lt, lt_of_lt_of_le, mod-lt}
 use native.Mathlib.Omega.{arith}
 use lib.Dec.{eqb}
 use lib.Pow.{pow_mono}
-use mir.Val.{bool_byte}
 use Rattle.ground.specs.Bits.{bit_number, bit_at}
 
 -- a bit as a number, and read again
@@ -22,11 +21,6 @@ pub bit_number_again : (n : ℕ) → n ≤ 1 → bit_number (eqb n 1) ≡ n
 bit_number_again zero h = refl
 bit_number_again (suc zero) h = refl
 bit_number_again (suc (suc n)) h = let no : ⊥ = omega arith in absurd no
-
--- a bit as a byte
-pub bool_byte_small : (bit : Bool) → bool_byte bit ≤ 1
-bool_byte_small true = omega arith
-bool_byte_small false = omega arith
 
 -- a byte has no bit above the seventh
 pub bit_at_past : (i n : ℕ) → n < 256 → 8 ≤ i → bit_at i n ≡ false

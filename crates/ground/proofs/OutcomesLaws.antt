@@ -6,7 +6,7 @@ use Prim.Native.Nat.{ℕ}
 use native.Mathlib.Omega.{arith}
 use lib.ListN.{length}
 use Rattle.ground.specs.declared.Refusal.{Refusal}
-use Rattle.std.specs.Prelude.{Ok, Err}
+use Rattle.std.specs.Prelude.{Option, None, Result, Ok, Err, ok_or, IsErrAnd}
 use Rattle.ground.specs.Refusals.{refusal_number, refusal_place}
 use Rattle.ground.specs.Written.{over}
 use Rattle.ground.specs.Outcomes.{Outcome, ComesTo, Rung, ladder, Row, row, NoneHolds, RefusedWith, AsTabled}
@@ -22,6 +22,12 @@ module _ {due : Outcome} {stream before : List ℕ} where
   pub succeeds : {after : List ℕ} {count : ℕ} → due ≡ Ok (length stream) → count ≡ length stream
       → after ≡ over before 0 stream → ComesTo due stream before (Ok count) after
   succeeds {after} {count} e whole all = record { answer = ap Ok whole ∙ sym e; bytes = rw e all }
+
+-- what `ok_or(why)?` returns where there is nothing
+pub absent : {T U : Type 0} {o : Option T} {why said : Refusal} (r : Result U Refusal) → IsErrAnd r (λ y. y ≡ said)
+    → Err said ≡ ok_or o why → o ≡ None → r ≡ Err why
+absent (Ok x) told e none = absurd told
+absent {why} {said} (Err y) told e none = let same : said ≡ why = cc (rw none at e) in rw (told, same)
 
 -- a success is no refusal
 not_written : (why : Refusal) (count : ℕ) → Err why ≡ Ok count → ⊥

@@ -129,7 +129,8 @@ pub fn first_above(values: &[u8], limit: u8) -> Option<usize>
     values.iter().position(|value| limit < *value)
 }
 
-// A value for each address: the first of some values, with zeros where there are fewer.
+// A value for each address: the first of some values, with zeros where there are fewer. An array of the memory's size, since nothing is
+// allocated.
 pub fn memory_from(values: &[u8]) -> [u8; ADDRESSES]
     ensures { result ≡ memory_from values.now }
 {

@@ -8,10 +8,9 @@ use Prim.Native.Nat.{ℕ, zero, suc, ◌+◌, ◌*◌, ◌/◌, ◌%◌, ◌^◌
 use native.Mathlib.Omega.{arith}
 use native.Mathlib.Nat.{div-eq_of_lt, div-lt_iff_lt-mul, one-mul, lt_of_lt_of_le, add-mul-mod_self_left, add-mul-div_left, mod-eq_of_lt, mod-add-div}
 use lib.Dec.{eqb, leb, ltb}
-use lib.ListN.{length, get_or}
+use lib.ListN.{get_or}
 use lib.Pow.{pow_pos, pow_mono}
 use borrow.Author.Tests.{eq-eqb, ne_eqb, le-leb, lt-ltb, leb-true, ltb-true, ltb-false, eqb-true}
-use Rattle.ground.specs.Sizes.{record_length}
 use Rattle.ground.specs.Values.{agree}
 use Rattle.ground.specs.Written.{byte}
 use Rattle.ground.proofs.ChoiceLaws.{each_of_3, each_of_4}
@@ -24,7 +23,7 @@ use Rattle.phases.specs.declared.Phase.TheVariants.{Idle, Ident, ReadTo, WriteTo
 use Rattle.phases.specs.declared.Line.{Line}
 use Rattle.phases.specs.declared.Line.TheVariants.{Released, Driven}
 use Rattle.phases.specs.Phases.{round, address, unfinished, value_of, position_of, phase_number, line_number}
-use Rattle.phases.specs.Frame.{frame_at, data_at, frame_bytes, in_range, goes_with_cs, most_bits, bits_right, rest_right, frame_right, phase_read, phase_in, line_read, line_in, value_in, frame_fits, phase_at, levels_at, line_at, frame_read, framed}
+use Rattle.phases.specs.Frame.{frame_at, data_at, frame_bytes, in_range, goes_with_cs, most_bits, bits_right, rest_right, frame_right, phase_read, phase_in, line_read, line_in, value_in, frame_fits, phase_at, levels_at, line_at}
 use Rattle.phases.specs.Valid.{FrameValid}
 use Rattle.phases.proofs.PhasesLaws.{line_number_small}
 

@@ -91,21 +91,11 @@ fn selections_in(bytes: &[u8]) -> Option<Selections>
     requires { length bytes.now ≡ record_length }
     ensures { result ≡ selections_read bytes.now }
 {
-    let Some(source) = codes::source_of(bytes[offsets::SOURCE]) else {
-        return None;
-    };
-    let Some(bias) = codes::bias_of(bytes[offsets::BIAS]) else {
-        return None;
-    };
-    let Some(commons) = codes::commons_of(bytes[offsets::COMMONS]) else {
-        return None;
-    };
-    let Some(pitch) = codes::pitch_of(bytes[offsets::PITCH]) else {
-        return None;
-    };
-    let Some(irq) = codes::irq_source_of(bytes[offsets::IRQ_SOURCE]) else {
-        return None;
-    };
+    let source = codes::source_of(bytes[offsets::SOURCE])?;
+    let bias = codes::bias_of(bytes[offsets::BIAS])?;
+    let commons = codes::commons_of(bytes[offsets::COMMONS])?;
+    let pitch = codes::pitch_of(bytes[offsets::PITCH])?;
+    let irq = codes::irq_source_of(bytes[offsets::IRQ_SOURCE])?;
     Some(Selections {
         source,
         bias,

@@ -1,6 +1,6 @@
 -- Laws of a rehearsal: samples with a pause after each; and a rehearsal is a write that stops, so demand 3 holds
 -- of the chip that it returns. Assumes nothing.
-use Rattle.std.specs.Prelude.{fold, Ok, Err}
+use Rattle.std.specs.Prelude.{fold, Ok}
 use mathlib.Core.Path.{◌≡◌, ◌∙◌, refl, sym, ap, subst}
 use mathlib.Core.List.{List, [], ◌∷◌}
 use Prim.Native.Nat.{ℕ, ◌*◌, ◌≤◌}
@@ -9,7 +9,6 @@ use native.Mathlib.Nat.{suc-mul}
 use lib.ListN.{length, take}
 use Rattle.chip.specs.declared.Chip.{Chip}
 use Rattle.chip.specs.Chip.{stepped, advanced}
-use Rattle.ground.specs.declared.Refusal.{Refusal}
 use Rattle.ground.specs.Written.{over}
 use Rattle.ground.proofs.WrittenLaws.{length_over}
 use Rattle.ground.specs.Outcomes.{Outcome}
@@ -87,13 +86,4 @@ module _ (first : ℕ) (ns : List ℕ) {before after' : List ℕ} {r : Outcome}
             ∙ ap (take (length (write_stream first ns))) w.3
             ∙ buffer_holds (write_stream first ns) before count w.2)
             ∙ ap (λ (a : Outcome). stopped a c stop pause (write_stream first ns)) (sym w.0);
-      }
-
-  pub refuses : {c : Chip} {stop pause : ℕ} {why : Refusal} → r ≡ Err why
-      → Rehearses c first ns stop pause before (record { answer = r; chip = c }) after'
-  refuses {c} {stop} {pause} {why} e =
-      record {
-        answer = did.answer;
-        bytes = did.bytes;
-        end = ap (λ (a : Outcome). stopped a c stop pause (write_stream first ns)) (sym e ∙ did.answer);
       }

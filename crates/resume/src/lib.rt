@@ -42,12 +42,8 @@ pub fn frame_in(bytes: &[u8]) -> Option<Frame>
     if !fields.are_right() {
         return None;
     }
-    let Some(phase) = fields.phase() else {
-        return None;
-    };
-    let Some(line) = line_of(fields.line) else {
-        return None;
-    };
+    let phase = fields.phase()?;
+    let line = line_of(fields.line)?;
     Some(Frame {
         levels: Levels::from(fields.lines),
         phase,

@@ -10,7 +10,7 @@ use native.Mathlib.Nat.{add-zero}
 use lib.Dec.{eqb, ltb}
 use lib.ListN.{length, take, drop, get_or, length-drop}
 use lib.Seq.{sets, sets-eq, length-sets, get_or-drop, get_or-append-add, drop_at}
-use borrow.Author.Tests.{eq-eqb, ne_eqb, le-leb, lt-ltb, le-ltb, ltb-true}
+use borrow.Author.Tests.{le-leb, lt-ltb, le-ltb, ltb-true}
 use Rattle.ground.specs.Sizes.{record_length}
 use Rattle.ground.specs.Codes.{is_code}
 use Rattle.ground.specs.Ranges.{up_to}
@@ -20,7 +20,7 @@ use Rattle.ground.specs.declared.Part.{Part}
 use Rattle.ground.specs.declared.Part.TheVariants.{Ht, Gn}
 use Rattle.ground.specs.Written.{byte, over}
 use Rattle.ground.proofs.BitsLaws.{bit_number_small, bit_number_back, bit_number_again}
-use Rattle.ground.proofs.ChoiceLaws.{none_chosen, some_chosen, and_left, and_right, and_both, each_of_3}
+use Rattle.ground.proofs.ChoiceLaws.{and_left, and_right, and_both, each_of_3}
 use Rattle.ground.proofs.CodesLaws.{case_of_again, read_of}
 use Rattle.ground.proofs.PartsLaws.{part_back, part_small}
 use Rattle.ground.proofs.RangesLaws.{up_to_at}

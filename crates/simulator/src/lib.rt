@@ -81,9 +81,7 @@ fn shown(bytes: &[u8], out: &mut [u8]) -> Result<u32, Refusal>
     ensures { (returned result ≡ pins_returns bytes.now out.old)
         × (out.new ≡ pins_bytes bytes.now out.old) }
 {
-    let Some(settings) = state::settings_in(bytes) else {
-        return Err(Refusal::Malformed);
-    };
+    let settings = state::settings_in(bytes).ok_or(Refusal::Malformed)?;
     if out.len() < ADDRESSES {
         return Err(Refusal::OutputShort);
     }
@@ -99,7 +97,9 @@ pub fn step(bytes: &mut [u8], sample: u8) -> u32
     returned(stepped(bytes, sample))
 }
 
-// So many single ticks: returns 0. They change the counters and the scan alone, so only the bytes from these on are written back.
+// So many single ticks: returns 0. They change the counters and the scan alone, so only the bytes from these on are written back. Written
+// out, with no function that answers a Result as for the others: with one it takes 288 bytes of stack, and a host is told that a call
+// takes at most 256.
 pub fn advance(bytes: &mut [u8], n: u16) -> u32
     ensures { (result ≡ advance_returns bytes.old)
         × (bytes.new ≡ advance_bytes bytes.old n) }

@@ -2,17 +2,17 @@
 use Rattle.std.specs.Prelude.{Some, None, Ok, Err}
 use mathlib.Core.Path.{◌≡◌, ◌∙◌, refl, sym, ap}
 use mathlib.Core.Bool.{Bool, true, false, cond, ◌&&◌, and-true, and-false}
-use mathlib.Core.List.{List, ◌++◌, append-nil}
+use mathlib.Core.List.{List, ◌++◌}
 use Prim.Native.Nat.{ℕ, ◌+◌, ◌≤◌}
 use native.Mathlib.Omega.{arith}
 use lib.Dec.{ltb, eqb}
 use lib.ListN.{length, take, drop}
-use borrow.Author.Tests.{eqb-true, le-ltb, ltb-false}
+use borrow.Author.Tests.{le-ltb, ltb-false}
 use Rattle.ground.specs.Sizes.{addresses, record_length}
 use Rattle.ground.specs.declared.Refusal.{Refusal}
 use Rattle.ground.specs.declared.Refusal.TheVariants.{OutputShort, Malformed}
 use Rattle.ground.specs.Outcomes.{outcome_number, written_as}
-use Rattle.ground.specs.Written.{byte, over, memory_from}
+use Rattle.ground.specs.Written.{byte, over}
 use Rattle.ground.specs.Parts.{part_read}
 use Rattle.ground.specs.Ranges.{up_to}
 use Rattle.ground.specs.declared.Part.{Part}
@@ -105,11 +105,6 @@ pub not_refused : (count : ℕ) (buffer : List ℕ) (why : Refusal) → record_l
 not_refused count buffer why room e =
     let no : true ≡ false = sym (short_found count buffer why e).1 ∙ le-ltb (length buffer) record_length room in cc
 
--- ---- the memory of a record is its first bytes
-
-pub memory_taken : (bytes : List ℕ) → length bytes ≡ record_length → memory_from bytes ≡ take addresses bytes
-memory_taken bytes h = rw h (append-nil (take addresses bytes))
-
 -- ---- what reading answers, by the tests in turn
 
 module _ (b : List ℕ) where
@@ -127,9 +122,6 @@ module _ (b : List ℕ) where
 module _ (b : List ℕ) (begun : begins b ≡ true) where
   long : eqb (length b) record_length ≡ true
   long = and_left (eqb (length b) record_length) (memory_fits b) begun
-
-  pub as_long : length b ≡ record_length
-  as_long = eqb-true (length b) record_length long
 
   above : settings_in_range b ≡ false → settings_right b ≡ false
   unfolding settings_right

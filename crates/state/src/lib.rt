@@ -76,18 +76,10 @@ pub fn read(bytes: &[u8]) -> Result<Chip, Refusal>
     if !recall::in_range(bytes) {
         return Err(Refusal::Malformed);
     }
-    let Some(frame) = resume::frame_in(bytes) else {
-        return Err(Refusal::Malformed);
-    };
-    let Some(part) = ground::part_of(bytes[offsets::PART] as usize) else {
-        return Err(Refusal::Malformed);
-    };
-    let Some(settings) = recall::settings_from(bytes, scan_in(bytes), part) else {
-        return Err(Refusal::Malformed);
-    };
-    let Some(memory) = bytes.first_chunk() else {
-        return Err(Refusal::Malformed);
-    };
+    let frame = resume::frame_in(bytes).ok_or(Refusal::Malformed)?;
+    let part = ground::part_of(bytes[offsets::PART] as usize).ok_or(Refusal::Malformed)?;
+    let settings = recall::settings_from(bytes, scan_in(bytes), part).ok_or(Refusal::Malformed)?;
+    let memory = bytes.first_chunk().ok_or(Refusal::Malformed)?;
     let port = Port {
         memory: *memory,
         levels: frame.levels,

@@ -5,7 +5,7 @@ use native.Mathlib.Omega.{arith}
 use lib.ListN.{length, drop, get_or}
 use Rattle.ground.specs.Written.{Wrote}
 use Rattle.streams.proofs.StreamsLaws.{ByItems, items_next, items_end}
-use Rattle.streams.proofs.Writing.{Writing, writing_starts, writing_part, writing_more, writing_room, writing_last}
+use Rattle.streams.proofs.Writing.{Writing, writing_starts, writing_part, writing_more, writing_last}
 
 pub record Sending {A : Type 0} (send : List A → List ℕ) (list : List A) (before : List ℕ) (from : ℕ) (after : List ℕ)
     (at i : ℕ) : Type 0 where
@@ -33,11 +33,7 @@ module _ {A : Type 0} {send : List A → List ℕ} {item : A → List ℕ} {clos
         writing = writing_more (item (get_or list i d)) (send (drop (i + 1) list)) s.writing (items_next by list i d h) w;
       }
 
-  -- all are sent: there is room for what closes them
-  pub sending_end : length list ≤ i → at + length close ≤ length after
-  sending_end h = writing_room close s.writing (items_end by list i h)
-
-  -- and it is written
+  -- all are sent, and what closes them is written
   pub sending_closes : {later : List ℕ} {next : ℕ} → length list ≤ i → Wrote after at close later next
       → Wrote before from (send list) later next
   sending_closes h w = writing_last close s.writing (items_end by list i h) w

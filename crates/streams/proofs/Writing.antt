@@ -59,12 +59,7 @@ module _ {before whole after : List ℕ} {from at : ℕ} where
       let all = sym (append-nil w.done) ∙ ap (λ (l : List ℕ). w.done ++ l) (sym e) ∙ w.joined in
       rw all at w.wrote
 
-  -- one part is left, and there is room for it
-  pub writing_room : (part : List ℕ) {rest : List ℕ} → Writing before from whole after at rest → rest ≡ part
-      → at + length part ≤ length after
-  writing_room part w e = writing_part part [] w (e ∙ sym (append-nil part))
-
-  -- and it is written
+  -- one part is left, and it is written
   pub writing_last : (part : List ℕ) {rest later : List ℕ} {next : ℕ} → Writing before from whole after at rest
       → rest ≡ part → Wrote after at part later next → Wrote before from whole later next
   writing_last part w e p =

@@ -1,11 +1,9 @@
 -- `driver::commands` meets its contract: each refusal is the first that applies, and else the stream is sent. Assumes nothing.
 use Rattle.std.specs.Prelude.{Some, None}
-use Rattle.std.proofs.lemmas.Result.{err_from_is_err_and}
-use mathlib.Core.Path.{◌≡◌, ◌∙◌, sym}
+use mathlib.Core.Path.{◌∙◌, sym}
 use borrow.Author.Tests.{lt-ltb, le-ltb}
 use Rattle.ground.specs.declared.Part.TheVariants.{Ht}
-use Rattle.ground.specs.declared.Refusal.TheVariants.{UnknownPart}
-use Rattle.ground.proofs.OutcomesLaws.{refuses}
+use Rattle.ground.proofs.OutcomesLaws.{absent, refuses}
 use Rattle.ground.proofs.PartsLaws.{part_none, part_found}
 use Rattle.ground.proofs.PlacesLaws.{position_found}
 use Rattle.streams.proofs.SentLaws.{sends_due}
@@ -16,10 +14,8 @@ use Rattle.driver.proofs.commands.Goals as goal
 pub returns-in_err-part : goal.returns-in_err-part
 unfolding command_answer
 returns-in_err-part c =
-    let p = err_from_is_err_and c.from_residual.result c.from_residual.ensures.1 in
-    let none = c.in_err-part.ensures.ok_part in
-    let why : c.in_err-part.field-0.0 ≡ UnknownPart = cc (rw none at c.in_err-part.ensures.value) in
-    rw (p.1, p.2, why) (refuses (simp (part_none _ (sym c.part_of.ensures ∙ none))))
+    rw (absent _ c.from_residual.ensures.1 c.in_err-part.ensures.value c.in_err-part.ensures.ok_part)
+    (refuses (simp (part_none _ (sym c.part_of.ensures ∙ c.in_err-part.ensures.ok_part))))
 
 pub returns-then-is_empty : goal.returns-then-is_empty
 unfolding command_answer

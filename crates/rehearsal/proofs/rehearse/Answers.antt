@@ -2,7 +2,7 @@
 -- Assumes nothing.
 use mathlib.Core.Path.{sym}
 use lib.Seq.{length-take-le}
-use Rattle.rehearsal.proofs.RehearsalLaws.{count_fits, rehearses, refuses}
+use Rattle.rehearsal.proofs.RehearsalLaws.{count_fits, rehearses}
 use Rattle.rehearsal.proofs.rehearse.Goals as goal
 
 pub slice_bounds-fed-end : goal.slice_bounds-fed-end
@@ -16,7 +16,3 @@ slice_bounds-fed-end-in-Ok c =
 pub returns-in-Ok : goal.returns-in-Ok
 returns-in-Ok c =
     rehearses c.args.first c.args.nibbles.now c.write-answer.ensures c.in-Ok.is c.fed-chip.ensures
-
-pub returns-in-Err : goal.returns-in-Err
-returns-in-Err c =
-    refuses c.args.first c.args.nibbles.now c.write-answer.ensures c.in-Err.is

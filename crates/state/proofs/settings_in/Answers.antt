@@ -1,8 +1,7 @@
 -- `state::settings_in` meets its contract: length and memory decide, then the settings' ranges, the frame, the part, and the settings.
 -- Assumes nothing.
 use mathlib.Core.Path.{◌∙◌, sym}
-use native.Mathlib.Omega.{arith}
-use Rattle.state.proofs.RecordLaws.{as_long, settings_begins, settings_above, settings_frame, settings_unparted, settings_whole}
+use Rattle.state.proofs.RecordLaws.{settings_begins, settings_above, settings_frame, settings_unparted, settings_whole}
 use Rattle.state.proofs.settings_in.Goals as goal
 
 pub returns-then-not-memory_right : goal.returns-then-not-memory_right
@@ -18,13 +17,6 @@ pub returns-then-not-holds_frame : goal.returns-then-not-holds_frame
 returns-then-not-holds_frame c =
     settings_frame c.args.bytes.now (sym c.memory_right.ensures ∙ c.if-not-memory_right.false)
     (sym c.holds_frame.ensures ∙ c.if-not-holds_frame.true)
-
-pub bounds-bytes-58 : goal.bounds-bytes-58
-bounds-bytes-58 c =
-    omega (arith, as_long c.args.bytes.now (sym c.memory_right.ensures ∙ c.if-not-memory_right.false))
-
-pub scan_in-requires : goal.scan_in-requires
-scan_in-requires c = as_long c.args.bytes.now (sym c.memory_right.ensures ∙ c.if-not-memory_right.false)
 
 pub returns-in_default : goal.returns-in_default
 returns-in_default c =

@@ -14,4 +14,4 @@ returns c =
     rw (bits_append id (address_bits c.args.first)) all
 
 pub put_bits-requires : goal.put_bits-requires
-put_bits-requires c = rw c.address_bits.ensures (omega (arith, bits_length c.args.id))
+put_bits-requires c = (omega arith, omega (arith, bits_length c.args.id))

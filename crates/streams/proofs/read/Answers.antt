@@ -7,7 +7,7 @@ use borrow.Author.Tests.{ltb-false}
 use lib.ListN.{replicate}
 use Rattle.streams.specs.Streams.{read_nibbles, read_stream, opening, send_bits, read_id, address_bits}
 use Rattle.ground.proofs.WrittenLaws.{wrote_then}
-use Rattle.streams.proofs.Sending.{sending_starts, sending_room, sending_more, sending_end, sending_closes}
+use Rattle.streams.proofs.Sending.{sending_starts, sending_room, sending_more, sending_closes}
 use Rattle.streams.proofs.SentLaws.{sends_none, sends_whole}
 use Rattle.streams.proofs.StreamsLaws.{reads_by_items, send_reads, any_length, reads_length, read_length}
 use Rattle.streams.proofs.read.Goals as goal
@@ -26,9 +26,6 @@ loop-preserved c = sending_more reads_by_items c.loop.invariant 0 (omega (arith,
 
 pub put-at-requires : goal.put-at-requires
 put-at-requires c = (omega arith, sending_room reads_by_items c.loop.invariant 0 (omega (arith, any_length c.args.count)))
-
-pub put-sent-requires : goal.put-sent-requires
-put-sent-requires c = (omega arith, sending_end reads_by_items c.loop.invariant (omega (arith, any_length c.args.count)))
 
 pub returns : goal.returns
 unfolding read_stream

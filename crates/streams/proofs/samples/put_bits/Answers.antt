@@ -9,9 +9,9 @@ use Rattle.streams.proofs.BitsLaws.{bool_byte_number}
 use Rattle.streams.proofs.samples.put_bits.Goals as goal
 
 pub loop-bit-init : goal.loop-bit-init
-loop-bit-init c = sending_starts send_bits c.args.bits.now _ _ (omega (arith, bits_length c.args.bits.now))
+loop-bit-init g c = sending_starts send_bits c.args.bits.now _ _ (omega (arith, bits_length c.args.bits.now))
 
 pub loop-bit-preserved : goal.loop-bit-preserved
-loop-bit-preserved c =
+loop-bit-preserved g c =
     let sent = rw (c.from-level.ensures ∙ bool_byte_number _) at c.put-next.ensures in
     sending_more bits_by_items c.loop-bit.invariant false (omega arith) sent

@@ -4,4 +4,4 @@ use Rattle.streams.proofs.Sending.{Sending}
 use Rattle.streams.proofs.samples.put_bits.Given as goal
 
 abbrev pub invariant-loop-bit : goal.invariant-loop-bit
-invariant-loop-bit l = Sending send_bits l.bits l.initial.out l.initial.next l.out l.next l.bit-index
+invariant-loop-bit g l = Sending send_bits l.bits l.initial.out l.initial.next l.out l.next l.bit-index
