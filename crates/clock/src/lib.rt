@@ -12,7 +12,7 @@ ghost use Rattle.clock.specs.Walks.{next, walked, rounds, turns, base_ticks};
 use commands::Commons;
 use ground::Part;
 
-// How many values each counter goes through.
+// How many values each counter goes through. A constant each, and no enum of sizes: they are the numbers of `Counter`.
 pub const PRESCALER_SIZE: u32 = 8;
 
 pub const TONER_SIZE: u32 = 16;
@@ -95,6 +95,7 @@ impl From<Source> for u8 {
     }
 }
 
+// That a size is no 0, and fits a byte, each that needs it asks: a const parameter takes no invariant.
 impl<const SIZE: u32> Counter<SIZE> {
     // So many steps later. A counter that makes none stays where it is, also out of its range.
     #[tactic(auto, using(crate::proofs::QuotientLaws::walked_landing), unfolding(crate::specs::Walks::walked))]
@@ -215,6 +216,7 @@ impl Timer {
     }
 }
 
+// `on` and `rate` are the fields of settings' `Base`, a crate above, and no struct of this one too: `counters_ticked` takes them apart.
 impl Counters {
     // After so many base ticks.
     #[tactic(auto, using(crate::proofs::CounterLaws::base_walked))]

@@ -181,8 +181,8 @@ fn close(phase: Phase) -> Framed
     }
 }
 
-// Phase and line are two arguments, as the definition `frame` has them, and a frame's answer is one value with both.
-// The frame after a sample that is `edge` to it, where `nibble` stands at the frame's address.
+// The frame after a sample that is `edge` to it, where `nibble` stands at the frame's address. Phase and line are two arguments, as the
+// definition `frame` has them, and a frame's answer is one value with both.
 #[tactic(auto, unfolding(crate::specs::Frames::frame))]
 pub fn frame_after(edge: Edge, nibble: u8, phase: Phase, line: Line) -> Framed
     ensures { result ≡ frame edge nibble phase line }

@@ -7,7 +7,7 @@ ghost use Rattle.std.specs.Prelude.{◌≡◌, length};
 use std::io;
 
 // The buffers are of fixed lengths, as a host lends them, and made in functions of their own, so that a proof of what uses one does not
-// compute with each of its bytes.
+// compute with each of its bytes. This one is listing's too: a program lends no function to another.
 fn out_buffer() -> [u8; 1572880] {
     [0; 1572880]
 }

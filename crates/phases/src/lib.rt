@@ -31,7 +31,8 @@ pub const POSITION_AT: usize = FRAME_AT + 6;
 
 pub const DATA_AT: usize = FRAME_AT + 7;
 
-// Where a frame stands. What comes in bit by bit has a count of the bits so far and their value, the first bit highest.
+// Where a frame stands. What comes in bit by bit has a count of the bits so far and their value, the first bit highest. The two are no
+// struct: the definitions of a frame and the theorems of stopped writes take each phase with what it carries, one by one.
 #[derive(Clone, Copy)]
 pub enum Phase {
     Idle,

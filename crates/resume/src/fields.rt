@@ -23,7 +23,7 @@ pub(crate) struct Fields {
 const MOST_BITS: [u8; 8] = [0, 2, 5, 5, 0, 3, 8, 0];
 
 impl Fields {
-    // Those of a list, if it is as long as a record.
+    // Those of a list, if it is as long as a record: an Option, and no TryFrom, as all that reads a record answers.
     pub(crate) fn of(bytes: &[u8]) -> Option<Fields>
         ensures { result ≡ fields_in bytes.now }
     {

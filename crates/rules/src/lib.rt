@@ -35,7 +35,8 @@ fn without_flag(source: IrqSource) -> IrqSource
 }
 
 // A function for each thing that commands set, which hands back the settings with it. With the things set in place, in one match, a
-// listing takes a seventh longer: the compiler keeps one more copy of the settings.
+// listing takes a tenth longer: the compiler keeps one more copy of the settings. Bias and commons stay two arguments, as `BiasCom` has
+// them, which the definitions and theorems of commands name with both.
 fn system_to(settings: Settings, on: bool) -> Settings
     ensures { result ≡ system_to on settings }
 {

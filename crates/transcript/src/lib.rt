@@ -15,7 +15,8 @@ use listed::Class;
 // The bytes of the longest input that is listed.
 const LONGEST: usize = 65536;
 
-// What a byte of the input is.
+// What a byte of the input is. No From: the byte's type and the enum are both of other crates. No `to_digit` either: it takes capital
+// letters too.
 #[tactic(auto, unfolding(listed::specs::Listing::class_of))]
 fn classify(byte: u8) -> Class
     ensures { result ≡ class_of byte }

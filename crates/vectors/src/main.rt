@@ -119,8 +119,8 @@ fn run(rt: &impl Print, line: &[u8], record: &mut [u8]) -> io::Result<()> {
     Ok(())
 }
 
-// A match and no table of functions: each letter stands in one place, and the calls take different arguments.
-// The call that a letter stands for, of those that lend a buffer. Another letter calls nothing and comes to 0.
+// The call that a letter stands for, of those that lend a buffer. Another letter calls nothing and comes to 0. A match and no table of
+// functions: each letter stands in one place, and the calls take different arguments.
 fn called(letter: u8, line: &[u8], bytes: &[u8], out: &mut [u8]) -> u32 {
     let first = field(line, 6, 22); // the first address, or the part
     let count = field(line, 23, 39);
