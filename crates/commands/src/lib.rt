@@ -106,8 +106,8 @@ fn entry_of(part: Part, code: usize) -> usize
     }
 }
 
-// The table has numbers and no commands: the rules ask for one constant of 512 small numbers, so that it is read beside theirs.
-// The number that the table has for a code: that of no command where it is above 511.
+// The number that the table has for a code: that of no command where it is above 511. The table has numbers and no commands: the rules ask
+// for one constant of 512 small numbers, so that it is read beside theirs.
 #[tactic(auto, using(crate::proofs::TableLaws::past_undefined, crate::proofs::TableLaws::entry_there))]
 fn number_of(part: Part, code: u16) -> u8
     ensures { result ≡ decoded_number (code_meaning part code) }

@@ -8,7 +8,7 @@ use native.Mathlib.Nat.{zero-add}
 use native.Mathlib.Numerals.{add-one}
 use lib.Bits.{and_zero_l}
 use lib.ListN.{length, get_or, set, take, length-map, get_or-map}
-use lib.Seq.{paste, paste-zero, paste-suc, length-paste, get_or-take, length-take-le}
+use lib.Seq.{paste, paste-suc, get_or-take, length-take-le}
 use Rattle.ground.specs.Sizes.{addresses}
 use Rattle.ground.proofs.WrittenLaws.{over_paste}
 use Rattle.simulator.proofs.show.Invariants.{cells}
@@ -39,32 +39,11 @@ next bytes buffer out mask i e long room more =
     ∙ ap (set out i) (sym (masked_at mask (take addresses bytes) i))
     ∙ paste_next buffer (cells mask bytes) out i e (omega arith) (omega (arith, cells_long mask bytes long))
 
-pub loop-i-init : goal.loop-i-init
-loop-i-init c = (omega arith, paste-zero c.args.out.now 0 (cells c.args.mask c.args.bytes.now))
-
--- the buffer stays as long as it was
-still_long : (bytes buffer out : List ℕ) (mask i : ℕ) → out ≡ paste buffer 0 (cells mask bytes) i → addresses ≤ length bytes
-    → addresses ≤ length buffer → i ≤ addresses → length out ≡ length buffer
-still_long bytes buffer out mask i e long room h =
-    ap length e ∙ length-paste buffer 0 (cells mask bytes) i (omega arith) (omega (arith, cells_long mask bytes long))
-
-pub bounds-out-i : goal.bounds-out-i
-bounds-out-i c =
-    let start = c.args in
-    let loop = c.loop-i in
-    omega (arith, still_long start.bytes.now start.out.now loop.out start.mask loop.i loop.invariant.1 (omega arith) (omega arith) (omega arith))
-
 pub loop-i-preserved : goal.loop-i-preserved
 loop-i-preserved c =
     let start = c.args in
     let loop = c.loop-i in
     (omega arith, next start.bytes.now start.out.now loop.out start.mask loop.i loop.invariant.1 (omega arith) (omega arith) (omega arith))
-
-pub shape_of-out : goal.shape_of-out
-shape_of-out c =
-    let start = c.args in
-    let loop = c.loop-i in
-    still_long start.bytes.now start.out.now loop.out start.mask loop.i loop.invariant.1 (omega arith) (omega arith) (omega arith)
 
 pub returns : goal.returns
 returns c =
