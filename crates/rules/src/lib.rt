@@ -212,6 +212,7 @@ fn glass_to(settings: Settings, bias: Bias, commons: Commons) -> Settings
 }
 
 // The settings as a command leaves them.
+#[tactic(auto, unfolding(crate::specs::Effects::effect))]
 pub fn obeyed(settings: Settings, command: Command) -> Settings
     ensures { result ≡ effect command settings }
 {
