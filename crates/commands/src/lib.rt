@@ -159,6 +159,7 @@ pub fn meaning(part: Part, code: u16) -> Option<Command>
 }
 
 // Whether a byte is the upper eight bits of no command of a part. Asked by the number, which is faster than by the command.
+#[tactic(auto, unfolding(crate::specs::Commands::command_fault), using(crate::proofs::TableLaws::told_fault, crate::proofs::TableLaws::named_ruled))]
 fn is_undefined(part: Part, code: u8) -> bool
     ensures { result ≡ command_fault part code }
 {

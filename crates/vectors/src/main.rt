@@ -24,6 +24,7 @@ use std::io::Read;
 const LONGEST: u64 = 262144;
 
 // The sample of a digit. No `to_digit`: a byte that is no digit gives a number too, so that there is nothing to refuse.
+#[tactic(auto, unfolding(crate::specs::Vectors::sample_of))]
 fn sample_of(byte: u8) -> u8
     ensures { result ≡ sample_of byte }
 {
