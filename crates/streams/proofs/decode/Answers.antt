@@ -7,7 +7,7 @@ use borrow.Author.Tests.{lt-ltb, le-ltb}
 use Rattle.streams.specs.Streams.{decoded, lowest_bits}
 use Rattle.streams.proofs.SentLaws.{sends_none, sends_whole}
 use Rattle.streams.proofs.StreamsLaws.{lowest_length, decoded_next, decoded_few}
-use Rattle.streams.proofs.Writing.{writing_starts, writing_part, writing_more, writing_ends}
+use Rattle.streams.proofs.Writing.{writing_starts, writing_more, writing_ends}
 use Rattle.streams.proofs.decode.Goals as goal
 
 pub returns-then-out-count : goal.returns-then-out-count
@@ -17,12 +17,6 @@ pub loop-notes-init : goal.loop-notes-init
 loop-notes-init c =
     let all : c.into_iter-notes-iterator.result.rest.now ≡ c.args.noted.now = cc in
     (cc, rw all (writing_starts _ _ _ (omega (arith, lowest_length c.args.noted.now))))
-
-pub put-at-requires : goal.put-at-requires
-put-at-requires c =
-    let step = c.in-Some.ensures.steps.1 in
-    let next = decoded_next _ _ _ _ step.0 (step.1 ∙ c.loop-notes.invariant.0) c.nibble_of-nibble.ensures in
-    (omega arith, writing_part (c.nibble_of-nibble.result ∷ []) (decoded (lowest_bits c.next.new.self.rest.now)) c.loop-notes.invariant.1 next)
 
 pub loop-notes-preserved : goal.loop-notes-preserved
 loop-notes-preserved c =
