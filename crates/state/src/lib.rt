@@ -2,9 +2,10 @@
 // again is the same bytes. Assumes nothing.
 #![tactic(auto)]
 
-ghost use Rattle.std.specs.Prelude.{◌≡◌, ◌&&◌, ◌≤◌, eqb, length, take, fold, leb, true};
+ghost use Rattle.std.specs.Prelude.{◌≡◌, ◌&&◌, ◌≤◌, eqb, length, take, fold, leb, true, ok_or};
 ghost use Rattle.ground.specs.Sizes.{addresses, record_length};
 ghost use Rattle.ground.specs.Outcomes.{written_as};
+ghost use Rattle.ground.specs.declared.Refusal.TheVariants.{Malformed};
 ghost use Rattle.ground.specs.Written.{over};
 ghost use Rattle.phases.specs.Frame.{framed};
 ghost use Rattle.settings.specs.Bytes.{settings_at, scan_of};
@@ -60,33 +61,37 @@ pub fn settings_in(bytes: &[u8]) -> Option<Settings>
     if !resume::holds_frame(bytes) {
         return None;
     }
-    let Some(part) = ground::part_of(bytes[offsets::PART] as usize) else {
-        return None;
-    };
+    let part = ground::part_of(bytes[offsets::PART] as usize)?;
     recall::settings_from(bytes, scan_in(bytes), part)
+}
+
+// The chip that a record says, if the record is valid.
+fn chip_in(bytes: &[u8]) -> Option<Chip>
+    ensures { ok_or result Malformed ≡ recalled_from bytes.now }
+{
+    if !memory_right(bytes) {
+        return None;
+    }
+    if !recall::in_range(bytes) {
+        return None;
+    }
+    let frame = resume::frame_in(bytes)?;
+    let part = ground::part_of(bytes[offsets::PART] as usize)?;
+    let settings = recall::settings_from(bytes, scan_in(bytes), part)?;
+    let port = Port {
+        memory: *bytes.first_chunk()?,
+        levels: frame.levels,
+        phase: frame.phase,
+        line: frame.line,
+    };
+    Some(Chip { port, settings })
 }
 
 // The chip that a record says, if the record is valid; refused as malformed if it is not.
 pub fn read(bytes: &[u8]) -> Result<Chip, Refusal>
     ensures { result ≡ recalled_from bytes.now }
 {
-    if !memory_right(bytes) {
-        return Err(Refusal::Malformed);
-    }
-    if !recall::in_range(bytes) {
-        return Err(Refusal::Malformed);
-    }
-    let frame = resume::frame_in(bytes).ok_or(Refusal::Malformed)?;
-    let part = ground::part_of(bytes[offsets::PART] as usize).ok_or(Refusal::Malformed)?;
-    let settings = recall::settings_from(bytes, scan_in(bytes), part).ok_or(Refusal::Malformed)?;
-    let memory = bytes.first_chunk().ok_or(Refusal::Malformed)?;
-    let port = Port {
-        memory: *memory,
-        levels: frame.levels,
-        phase: frame.phase,
-        line: frame.line,
-    };
-    Ok(Chip { port, settings })
+    chip_in(bytes).ok_or(Refusal::Malformed)
 }
 
 // What a port has in bytes 32 to 39.
