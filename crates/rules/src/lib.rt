@@ -48,12 +48,8 @@ fn system_to(settings: Settings, on: bool) -> Settings
 fn source_to(settings: Settings, source: Source) -> Settings
     ensures { result ≡ source_to source settings }
 {
-    let system = System {
-        on: settings.system.on,
-        source,
-    };
     let mut next = settings;
-    next.system = system;
+    next.system.source = source;
     next
 }
 
@@ -68,13 +64,9 @@ fn lcd_to(settings: Settings, on: bool) -> Settings
 fn display_to(settings: Settings, bias: Bias, commons: Commons) -> Settings
     ensures { result ≡ display_to bias commons settings }
 {
-    let lcd = Lcd {
-        on: settings.lcd.on,
-        bias,
-        commons,
-    };
     let mut next = settings;
-    next.lcd = lcd;
+    next.lcd.bias = bias;
+    next.lcd.commons = commons;
     next
 }
 
@@ -89,12 +81,8 @@ fn tone_to(settings: Settings, on: bool) -> Settings
 fn pitch_to(settings: Settings, pitch: Pitch) -> Settings
     ensures { result ≡ pitch_to pitch settings }
 {
-    let tone = Tone {
-        on: settings.tone.on,
-        pitch,
-    };
     let mut next = settings;
-    next.tone = tone;
+    next.tone.pitch = pitch;
     next
 }
 
@@ -109,12 +97,8 @@ fn irq_to(settings: Settings, on: bool) -> Settings
 fn irq_source_to(settings: Settings, source: IrqSource) -> Settings
     ensures { result ≡ irq_source_to source settings }
 {
-    let irq = Irq {
-        on: settings.irq.on,
-        source,
-    };
     let mut next = settings;
-    next.irq = irq;
+    next.irq.source = source;
     next
 }
 
@@ -137,10 +121,8 @@ fn rate_to(settings: Settings, rate: u8) -> Settings
 fn timer_to(settings: Settings, timer: Timer) -> Settings
     ensures { result ≡ timer_to timer settings }
 {
-    let mut counters = settings.counters;
-    counters.timer = timer;
     let mut next = settings;
-    next.counters = counters;
+    next.counters.timer = timer;
     next
 }
 
@@ -164,11 +146,8 @@ fn test_to(settings: Settings, test: bool) -> Settings
 fn system_off(settings: Settings) -> Settings
     ensures { result ≡ system_off settings.system.source settings }
 {
-    let system = settings.system;
-    let source = system.source;
-    match source {
-        Source::Xtal => system_to(lcd_to(settings, false), false),
-        Source::Rc => system_to(lcd_to(settings, false), false),
+    match settings.system.source {
+        Source::Xtal | Source::Rc => system_to(lcd_to(settings, false), false),
         Source::Ext => settings,
     }
 }
@@ -177,18 +156,14 @@ fn system_off(settings: Settings) -> Settings
 fn timer_off(settings: Settings) -> Settings
     ensures { result ≡ timer_off settings }
 {
-    let irq = settings.irq;
-    let source = irq.source;
-    irq_source_to(settings, without_time_base(source))
+    irq_source_to(settings, without_time_base(settings.irq.source))
 }
 
 // WDT DIS: the time base goes off, and the flag is no IRQ source any more.
 fn watchdog_off(settings: Settings) -> Settings
     ensures { result ≡ watchdog_off settings }
 {
-    let irq = settings.irq;
-    let source = irq.source;
-    time_base_to(irq_source_to(settings, without_flag(source)), false)
+    time_base_to(irq_source_to(settings, without_flag(settings.irq.source)), false)
 }
 
 // IRQ DIS: the output goes off, and the time-out flag with it.
