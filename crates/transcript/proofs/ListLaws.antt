@@ -9,7 +9,6 @@ use lib.ListN.{length, drop, get_or, length-drop, drop_of_length-le}
 use lib.Seq.{drop-cons}
 use Rattle.ground.specs.Written.{Wrote}
 use Rattle.ground.proofs.WrittenLaws.{wrote_then}
-use Rattle.settings.specs.declared.Settings.{Settings}
 use Rattle.chip.specs.declared.Chip.{Chip}
 use Rattle.chip.specs.declared.Stepped.{Stepped}
 use Rattle.chip.specs.Chip.{stepped, ticked}
@@ -88,13 +87,13 @@ module _ {input before now : List ℕ} {chip : Chip} {at samples ticks i : ℕ}
   unfolding list_from
   going_ends {after} {k} none w = g.onward after k (rw (drop_of_length-le input none) w)
 
-  -- as the code has it: the chip is what `step` hands back, and its settings what `ticked` does
+  -- as the code has it: the chip is what `step` and `tick` hand back
   pub going_steps : (value : ℕ) (result : Stepped) {then : List ℕ} {next : ℕ} → result ≡ stepped chip value
       → i < length input → Sample value ≡ class_of (get_or input i 0)
       → Wrote now at (answer_line (samples + 1) result.answer) then next
       → 24 * length input + 16 ≤ length before → Going input before then result.chip next (samples + 1) ticks (i + 1)
   going_steps value result same more e w fits = rw same (going_samples value more e (rw same at w) fits)
 
-  pub going_counts : (result : Settings) → result ≡ (ticked chip).settings → i < length input → Tick ≡ class_of (get_or input i 0)
-      → Going input before now (record { port = chip.port; settings = result }) at samples (ticks + 1) (i + 1)
+  pub going_counts : (result : Chip) → result ≡ ticked chip → i < length input → Tick ≡ class_of (get_or input i 0)
+      → Going input before now result at samples (ticks + 1) (i + 1)
   going_counts result same more e = rw same (going_ticks more e)

@@ -132,7 +132,7 @@ fn put_lines(input: &[u8], out: &mut [u8]) -> usize
                 at = put_answer(out, at, samples, stepped.answer);
             }
             Class::Tick => {
-                chip.settings = ticks::ticked(chip.settings);
+                chip = chip.tick();
                 ticks += 1;
             }
             Class::Skipped => {}

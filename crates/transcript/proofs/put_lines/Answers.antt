@@ -20,7 +20,7 @@ loop-offset-preserved c =
           (sym w.in-Sample.is ∙ c.classify.ensures) w.put_answer-at.ensures c.requires.1)
       | in-Tick w ↦
           rw (w.out-is, w.chip-is, w.at-is, w.samples-is, w.ticks-is)
-          (going_counts g w.ticked-chip.result w.ticked-chip.ensures (omega arith) (sym w.in-Tick.is ∙ c.classify.ensures))
+          (going_counts g w.tick-chip.result w.tick-chip.ensures (omega arith) (sym w.in-Tick.is ∙ c.classify.ensures))
       | in-Skipped w ↦
           rw (w.out-is, w.chip-is, w.at-is, w.samples-is, w.ticks-is)
           (going_skips g (omega arith) (sym w.in-Skipped.is ∙ c.classify.ensures))
