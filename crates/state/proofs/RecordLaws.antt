@@ -108,60 +108,49 @@ not_refused count buffer why room e =
 -- ---- what reading answers, by the tests in turn
 
 module _ (b : List ℕ) where
+  pub read_invalid : record_valid b ≡ false → Err Malformed ≡ recalled_from b
+  unfolding recalled_from
+  read_invalid e = rw e
+
+  pub settings_invalid : record_valid b ≡ false → None ≡ settings_in b
+  unfolding settings_in
+  settings_invalid e = rw e
+
   abbrev begins : Bool
   begins = eqb (length b) record_length && memory_fits b
 
-  pub read_begins : begins ≡ false → Err Malformed ≡ recalled_from b
-  unfolding recalled_from record_valid
-  read_begins e = rw e
-
-  pub settings_begins : begins ≡ false → None ≡ settings_in b
-  unfolding settings_in record_valid
-  settings_begins e = rw e
+  -- each test that fails decides
+  pub begins_fails : begins ≡ false → record_valid b ≡ false
+  unfolding record_valid
+  begins_fails e = rw e
 
 module _ (b : List ℕ) (begun : begins b ≡ true) where
   long : eqb (length b) record_length ≡ true
   long = and_left (eqb (length b) record_length) (memory_fits b) begun
 
-  above : settings_in_range b ≡ false → settings_right b ≡ false
-  unfolding settings_right
-  above e = let no : (up_to (drop settings_at b) settings_maxima && scan_right b) ≡ false = rw long at e in rw no
-
-  -- the last test that fails decides
-  last_fails : settings_right b ≡ false → record_valid b ≡ false
+  settings_fail : settings_right b ≡ false → record_valid b ≡ false
   unfolding record_valid
-  last_fails e = rw (begun, e) (and-false (frame_fits b))
+  settings_fail e = rw (begun, e) (and-false (frame_fits b))
 
-  pub read_above : settings_in_range b ≡ false → Err Malformed ≡ recalled_from b
-  unfolding recalled_from
-  read_above e = rw (last_fails (above e))
+  pub ranges_fail : settings_in_range b ≡ false → record_valid b ≡ false
+  unfolding settings_right
+  ranges_fail e =
+      let no : (up_to (drop settings_at b) settings_maxima && scan_right b) ≡ false = rw long at e in settings_fail (rw no)
 
-  pub settings_above : settings_in_range b ≡ false → None ≡ settings_in b
-  unfolding settings_in
-  settings_above e = rw (last_fails (above e))
+  pub frame_fails : holds_frame b ≡ false → record_valid b ≡ false
+  unfolding record_valid
+  frame_fails e = let no : frame_fits b ≡ false = rw long at e in rw (begun, no)
 
-  pub settings_frame : holds_frame b ≡ false → None ≡ settings_in b
-  unfolding settings_in record_valid
-  settings_frame e = let no : frame_fits b ≡ false = rw long at e in rw (begun, no)
+  pub frame_unread : frame_read b ≡ None → record_valid b ≡ false
+  unfolding record_valid frame_read
+  frame_unread e = let no : frame_fits b ≡ false = none_chosen _ (frame_fits b) (rw long at e) in rw (begun, no)
 
-  pub read_frame : frame_read b ≡ None → Err Malformed ≡ recalled_from b
-  unfolding recalled_from record_valid frame_read
-  read_frame e = let no : frame_fits b ≡ false = none_chosen _ (frame_fits b) (rw long at e) in rw (begun, no)
-
-  module _ (none : part_read (byte b 58) ≡ None) where
-    unparted : settings_right b ≡ false
-    unfolding settings_right
-    unparted =
-        rw (all_known_lem b, part_none (byte b 58) none, and-false (selections_known b))
-        (and-false (up_to (drop settings_at b) settings_maxima && scan_right b))
-
-    pub read_unparted : Err Malformed ≡ recalled_from b
-    unfolding recalled_from
-    read_unparted = rw (last_fails unparted)
-
-    pub settings_unparted : None ≡ settings_in b
-    unfolding settings_in
-    settings_unparted = rw (last_fails unparted)
+  pub part_fails : part_read (byte b 58) ≡ None → record_valid b ≡ false
+  unfolding settings_right
+  part_fails none =
+      settings_fail
+      (rw (all_known_lem b, part_none (byte b 58) none, and-false (selections_known b))
+      (and-false (up_to (drop settings_at b) settings_maxima && scan_right b)))
 
   module _ (ranged : settings_in_range b ≡ true) (part : Part) (parted : part_read (byte b 58) ≡ Some part) where
     -- the selections are all that is left to decide
@@ -179,9 +168,9 @@ module _ (b : List ℕ) (begun : begins b ≡ true) where
     unfolding settings_in settings_read record_valid
     settings_whole e = let framed : frame_fits b ≡ true = rw long at e in rw (begun, long, framed, left, whole)
 
-    pub read_settings : settings_read b (scan_of b) part ≡ None → Err Malformed ≡ recalled_from b
-    unfolding recalled_from settings_read
-    read_settings e = rw (last_fails (left ∙ none_chosen _ (selections_known b) (rw long at e)))
+    pub selections_fail : settings_read b (scan_of b) part ≡ None → record_valid b ≡ false
+    unfolding settings_read
+    selections_fail e = settings_fail (left ∙ none_chosen _ (selections_known b) (rw long at e))
 
     pub read_whole : (frame : Frame) (settings : Settings) (memory : List ℕ) → frame_read b ≡ Some frame
         → settings_read b (scan_of b) part ≡ Some settings → memory ≡ take addresses b
