@@ -36,8 +36,8 @@ impl From<End> for u8 {
 // The status by which a shell tells a program that a closed pipe ended.
 const PIPE_CLOSED: u8 = 141;
 
-// The buffers are of fixed lengths, so that a listing asks for no memory, and made in functions of their own, so that a proof of what uses
-// one does not compute with each of its bytes.
+// The buffers are of fixed lengths, so that input and listing ask for no memory, and made in functions of their own, so that a proof of
+// what uses one does not compute with each of its bytes.
 fn in_buffer() -> [u8; 65537]
     ensures { 65537 ≡ length result }
 {

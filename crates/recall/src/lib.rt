@@ -1,4 +1,5 @@
-// The settings read from a state record's bytes, 40 to 63. Assumes nothing.
+// The settings read from a state record's bytes, 40 to 63. What coded bytes come to is taken apart by `let .. else` and not by `?`: that is
+// the form that the pack has for it. Assumes nothing.
 #![tactic(auto)]
 
 ghost use Rattle.std.specs.Prelude.{◌≡◌, length};
@@ -43,7 +44,8 @@ const MAXIMA: [u8; LENGTH] = [
     0,
 ];
 
-// Whether the common that is scanned is one of those in force, and the scan's counter one of the part's.
+// Whether the common that is scanned is one of those in force, and the scan's counter one of the part's. Asked of the bytes as they
+// stand, before the part and the commons are read: `settings_in_range` asks it so.
 #[tactic(auto, unfolding(settings::specs::Bytes::scan_fits))]
 fn scan_fits(part: u8, commons: u8, counter: u8, common: u8) -> bool
     ensures { result ≡ scan_fits part commons counter common }
@@ -91,11 +93,21 @@ fn selections_in(bytes: &[u8]) -> Option<Selections>
     requires { length bytes.now ≡ record_length }
     ensures { result ≡ selections_read bytes.now }
 {
-    let source = codes::source_of(bytes[offsets::SOURCE])?;
-    let bias = codes::bias_of(bytes[offsets::BIAS])?;
-    let commons = codes::commons_of(bytes[offsets::COMMONS])?;
-    let pitch = codes::pitch_of(bytes[offsets::PITCH])?;
-    let irq = codes::irq_source_of(bytes[offsets::IRQ_SOURCE])?;
+    let Some(source) = codes::source_of(bytes[offsets::SOURCE]) else {
+        return None;
+    };
+    let Some(bias) = codes::bias_of(bytes[offsets::BIAS]) else {
+        return None;
+    };
+    let Some(commons) = codes::commons_of(bytes[offsets::COMMONS]) else {
+        return None;
+    };
+    let Some(pitch) = codes::pitch_of(bytes[offsets::PITCH]) else {
+        return None;
+    };
+    let Some(irq) = codes::irq_source_of(bytes[offsets::IRQ_SOURCE]) else {
+        return None;
+    };
     Some(Selections {
         source,
         bias,

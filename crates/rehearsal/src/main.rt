@@ -11,7 +11,8 @@ use chip::Chip;
 use ground::Refusal;
 use std::io;
 
-// What a rehearsal comes to: what the driver answered, and the chip where the write was stopped.
+// What a rehearsal comes to: what the driver answered, and the chip where the write was stopped. The chip is no part of the answer: there
+// is one after a refusal too, and `Rehearses` says which.
 #[derive(Clone, Copy)]
 struct Rehearsed {
     answer: Result<usize, Refusal>,

@@ -7,7 +7,8 @@ use phases::{
     ADDRESS_AT, COUNT_AT, DATA_AT, FRAME_AT, HIGH_AT, LOW_AT, PHASE_AT, POSITION_AT, Phase,
 };
 
-// Bytes 32 to 39, those of the unfinished bits' value made one number.
+// Bytes 32 to 39, those of the unfinished bits' value made one number. The tests go by the phase's number, before it is read: it is then
+// right for every number, and `frame_right` asks it so.
 #[derive(Clone, Copy)]
 pub(crate) struct Fields {
     pub(crate) lines: u8,
@@ -23,7 +24,7 @@ pub(crate) struct Fields {
 const MOST_BITS: [u8; 8] = [0, 2, 5, 5, 0, 3, 8, 0];
 
 impl Fields {
-    // Those of a list, if it is as long as a record: an Option, and no TryFrom, as all that reads a record answers.
+    // Those of a list, if it is as long as a record: an Option, and no TryFrom, as of every part of a record.
     pub(crate) fn of(bytes: &[u8]) -> Option<Fields>
         ensures { result ≡ fields_in bytes.now }
     {

@@ -1,4 +1,5 @@
-// A frame read from a state record's bytes, 32 to 39: the lines, the phase and DATA. Assumes nothing.
+// A frame read from a state record's bytes, 32 to 39: the lines, the phase and DATA. What coded bytes come to is taken apart by
+// `let .. else` and not by `?`: that is the form that the pack has for it. Assumes nothing.
 #![tactic(auto)]
 
 ghost use Rattle.std.specs.Prelude.{◌≡◌};
@@ -42,8 +43,12 @@ pub fn frame_in(bytes: &[u8]) -> Option<Frame>
     if !fields.are_right() {
         return None;
     }
-    let phase = fields.phase()?;
-    let line = line_of(fields.line)?;
+    let Some(phase) = fields.phase() else {
+        return None;
+    };
+    let Some(line) = line_of(fields.line) else {
+        return None;
+    };
     Some(Frame {
         levels: Levels::from(fields.lines),
         phase,

@@ -11,8 +11,8 @@ use commands::{Bias, Command, Commons};
 use ground::Part;
 use settings::{Base, Irq, IrqSource, Lcd, Pitch, Settings, System, Tone};
 
-// The source once the time base is none. One function of this and the next would be no plainer: it would have nine cases, or compare
-// sources, which nothing else asks for.
+// The source once the time base is none. One function of this and the next would be no plainer: the rules have the two apart, and it would
+// need a definition of both, and a law for each.
 fn without_time_base(source: IrqSource) -> IrqSource
     ensures { result ≡ without_time_base source }
 {
@@ -34,9 +34,9 @@ fn without_flag(source: IrqSource) -> IrqSource
     }
 }
 
-// A function for each thing that commands set, which hands back the settings with it. With the things set in place, in one match, a
-// listing takes a tenth longer: the compiler keeps one more copy of the settings. Bias and commons stay two arguments, as `BiasCom` has
-// them, which the definitions and theorems of commands name with both.
+// A function for each thing that commands set, which hands back the settings with it. With the things set in one match a listing takes a
+// tenth longer (tried; it misses the speed bar): the compiler keeps one more copy of the settings. Bias and commons stay two arguments, as
+// `BiasCom` has them, which the definitions and theorems of commands name with both.
 fn system_to(settings: Settings, on: bool) -> Settings
     ensures { result ≡ system_to on settings }
 {
@@ -156,14 +156,16 @@ fn system_off(settings: Settings) -> Settings
 fn timer_off(settings: Settings) -> Settings
     ensures { result ≡ timer_off settings }
 {
-    irq_source_to(settings, without_time_base(settings.irq.source))
+    let source = without_time_base(settings.irq.source);
+    irq_source_to(settings, source)
 }
 
 // WDT DIS: the time base goes off, and the flag is no IRQ source any more.
 fn watchdog_off(settings: Settings) -> Settings
     ensures { result ≡ watchdog_off settings }
 {
-    time_base_to(irq_source_to(settings, without_flag(settings.irq.source)), false)
+    let source = without_flag(settings.irq.source);
+    time_base_to(irq_source_to(settings, source), false)
 }
 
 // IRQ DIS: the output goes off, and the time-out flag with it.

@@ -45,8 +45,8 @@ fn pins_code(settings: Settings, line: u8) -> u32
     (irq as u32) + 2 * (bz as u32) + 4 * (partner as u32) + 8 * (line as u32)
 }
 
-// The memory's bytes under a mask over the start of a buffer. By their index: an array made by `map` and copied takes thrice as long,
-// and of `iter_mut` a proof knows no element.
+// The memory's bytes under a mask over the start of a buffer. By their index: an array made by `map` and copied takes thrice as long
+// (tried; it misses the speed bar), and of `iter_mut` a proof knows no element (tried; it did not close).
 fn show(bytes: &[u8], mask: u8, out: &mut [u8])
     requires memory_there { addresses ≤ length bytes.now }
     requires room_for_cells { addresses ≤ length out.old }
@@ -98,8 +98,8 @@ pub fn step(bytes: &mut [u8], sample: u8) -> u32
 }
 
 // So many single ticks: returns 0. They change the counters and the scan alone, so only the bytes from these on are written back. Written
-// out, with no function that answers a Result as for the others: with one it takes 288 bytes of stack, and a host is told that a call
-// takes at most 256.
+// out, with no function that answers a Result as for the others: with one it takes 288 bytes of stack (tried), and the header says of this
+// call that it takes at most 256.
 pub fn advance(bytes: &mut [u8], n: u16) -> u32
     ensures { (result ≡ advance_returns bytes.old)
         × (bytes.new ≡ advance_bytes bytes.old n) }

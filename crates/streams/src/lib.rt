@@ -48,7 +48,7 @@ fn short(room: usize, frame: usize, each: usize, count: usize) -> bool
     room < frame || (room - frame) / each < count
 }
 
-// How a write and a read begin: the ID and the address.
+// How a write and a read begin: all lines high, CS low, the ID and the address.
 fn open_transfer(id: [bool; 3], first: u8, out: &mut [u8]) -> usize
     requires { 20 ≤ length out.old }
     ensures { Wrote out.old 0 (opening ++ send_bits (id ++ address_bits first)) out.new result }

@@ -20,7 +20,8 @@ ghost use Rattle.vectors.specs.Vectors.{sample_of};
 use std::io;
 use std::io::Read;
 
-// As many bytes of the script as are read. They are read to the heap, as a test may; the listing, which a maker runs, asks for no memory.
+// As many bytes of the script as are read. They are read to the heap, as a test may; the listing, which a maker runs, has its input on the
+// stack.
 const LONGEST: u64 = 262144;
 
 // The sample of a digit. No `to_digit`: a byte that is no digit gives a number too, so that there is nothing to refuse.
@@ -136,7 +137,8 @@ fn called(letter: u8, line: &[u8], bytes: &[u8], out: &mut [u8]) -> u32 {
     }
 }
 
-// Makes such a call, and writes what it returned and the buffer.
+// Makes such a call, and writes what it returned and the buffer. The line, its bytes and the buffer go on as they are, here and below: a
+// struct of the three would lend what is lent already.
 fn show_called(
     rt: &impl Print,
     letter: u8,

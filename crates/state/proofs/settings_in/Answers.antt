@@ -17,15 +17,14 @@ returns-then-not-holds_frame c =
     settings_invalid _
     (frame_fails _ (sym c.memory_right.ensures ∙ c.if-not-memory_right.false) (sym c.holds_frame.ensures ∙ c.if-not-holds_frame.true))
 
-pub returns-in_err-part : goal.returns-in_err-part
-returns-in_err-part c =
-    rw c.from_residual.ensures
-    (settings_invalid _
-    (part_fails _ (sym c.memory_right.ensures ∙ c.if-not-memory_right.false) (sym c.part_of.ensures ∙ c.in_err-part.was)))
+pub returns-in_default : goal.returns-in_default
+returns-in_default c =
+    settings_invalid _
+    (part_fails _ (sym c.memory_right.ensures ∙ c.if-not-memory_right.false) (sym c.part_of.ensures ∙ c.in_default.is))
 
 pub returns : goal.returns
 returns c =
     simp c.scan_in.ensures at c.settings_from.ensures
     ∙ settings_whole c.args.bytes.now (sym c.memory_right.ensures ∙ c.if-not-memory_right.false)
-    (sym c.in_range.ensures ∙ c.if-not-in_range.false) _ (sym c.part_of.ensures ∙ c.in_ok-part.was)
+    (sym c.in_range.ensures ∙ c.if-not-in_range.false) _ (sym c.part_of.ensures ∙ c.in-Some.is)
     (sym c.holds_frame.ensures ∙ c.if-not-holds_frame.false)
