@@ -1,6 +1,7 @@
 // The host's side of an HT1621 or a GN1621: sample streams for writes, reads and commands, and the meaning of what a read noted.
 // Every call is answered: with the number of bytes that it wrote at the start of the buffer lent, or with the reason
 // why it wrote none. What is not refused here is for `streams` to write, which refuses last, a buffer too short.
+// First address, count or nibbles, and the buffer, are no struct: the calls for C have them so, and `write_answer` takes them apart.
 // Assumes nothing.
 #![tactic(auto)]
 

@@ -1,5 +1,6 @@
 // Sample streams for an HT1621, and what a read noted made nibbles. Each function writes its whole stream over the start of the
-// buffer lent, or refuses with 25 and writes nothing; what may be asked of a chip is for the driver to say. Assumes nothing.
+// buffer lent, or refuses with 25 and writes nothing; what may be asked of a chip is for the driver to say. First address, count or
+// nibbles, and the buffer, are no struct: the calls for C have them so, and `write_stream` takes them apart. Assumes nothing.
 #![tactic(auto)]
 
 ghost use Rattle.std.specs.Prelude.{◌≡◌, ◌+◌, ◌*◌, ◌%◌, ◌≤◌, ◌<◌, ◌++◌, ltb, length};
