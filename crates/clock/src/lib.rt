@@ -53,8 +53,8 @@ pub type Divider = Counter<DIVIDER_SIZE>;
 // b: the time base, whose upper half drives IRQ.
 pub type BaseCounter = Counter<BASE_SIZE>;
 
-// w and the time-out flag. The count is no `Counter`, nor are those of the scan: the sheet and the theorems name it as it is, and the scan's
-// sizes go by the part and the commons.
+// w and the time-out flag. The count is no `Counter`, nor are those of the scan: the definitions of a valid chip and of a record's bytes
+// name it as it is, and the scan's sizes go by the part and the commons.
 #[derive(Clone, Copy)]
 pub struct Watchdog {
     pub count: u8,

@@ -32,8 +32,8 @@ impl From<Part> for u8 {
     }
 }
 
-// The part with this number, if there is one. An Option, and no TryFrom with an error of its own: power-on and
-// the driver make 43 of a number that has none, and whoever reads a record makes 28.
+// The part with this number, if there is one. An Option, and no TryFrom with an error of its own: power-on and the driver make 43 of a
+// number that has none, and whoever reads a record makes 28.
 #[tactic(auto, unfolding(crate::specs::Parts::part_read))]
 pub fn part_of(number: usize) -> Option<Part>
     ensures { result ≡ part_read number }

@@ -15,8 +15,7 @@ pub(crate) fn put<const N: usize>(out: &mut [u8], at: usize, samples: [u8; N]) -
     next
 }
 
-// Bits, each in two samples with DATA at it: WR goes low, then high. An array, so that the compiler knows how many they
-// are.
+// Bits, each in two samples with DATA at it: WR goes low, then high. An array, so that the compiler knows how many.
 pub(crate) fn put_bits<const N: usize>(out: &mut [u8], at: usize, bits: &[bool; N]) -> usize
     requires { at + 2 * N ≤ length out.old }
     ensures { Wrote out.old at (send_bits bits.now) out.new result }
