@@ -1,9 +1,9 @@
 -- RULES "Samples", "What a sample is answered" and "Ticks", of the whole chip: what a sample and a tick make of it.
 -- Assumes nothing.
-use Rattle.commands.specs.declared.Command.{Command}
 use Rattle.std.specs.Prelude.{ℕ, ◌*◌, cond, ltb, Option, Some, None}
 use Rattle.ground.specs.declared.Part.{Part}
 use Rattle.ground.specs.declared.Refusal.TheVariants.{SampleAbove}
+use Rattle.commands.specs.declared.Command.{Command}
 use Rattle.commands.specs.Commands.{code_meaning}
 use Rattle.settings.specs.declared.Settings.{Settings}
 use Rattle.rules.specs.Effects.{effect}

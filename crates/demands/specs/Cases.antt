@@ -1,5 +1,4 @@
 -- RULES "Cases on both sides", as one table under one statement. Assumes nothing.
-use Rattle.commands.specs.declared.Command.{Command}
 use Rattle.std.specs.Prelude.{◌≡◌, true, false, List, [], ◌∷◌, ℕ, ◌≤◌, length, Option, Some, None, Ok}
 use Rattle.ground.specs.Outcomes.{RefusedWith}
 use Rattle.ground.specs.Sizes.{addresses}
@@ -7,6 +6,7 @@ use Rattle.ground.specs.declared.Part.{Part}
 use Rattle.ground.specs.declared.Part.TheVariants.{Ht, Gn}
 use Rattle.commands.specs.declared.Bias.TheVariants.{Third}
 use Rattle.commands.specs.declared.Commons.TheVariants.{Four}
+use Rattle.commands.specs.declared.Command.{Command}
 use Rattle.commands.specs.declared.Command.TheVariants.{BiasCom}
 use Rattle.commands.specs.Commands.{byte_meaning}
 use Rattle.clock.specs.Ticks.{scan_start}

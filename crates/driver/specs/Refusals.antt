@@ -2,8 +2,7 @@
 use Rattle.std.specs.Prelude.{ℕ, ◌+◌, ◌-◌, ◌*◌, ◌%◌, Bool, not, ◌||◌, List, [], ◌∷◌, eqb, ltb, length}
 use Rattle.ground.specs.declared.Refusal.TheVariants.{NothingAsked, AddressAbove, RunsPastEnd, TooManyCommands, NibbleAbove, UndefinedCommand, UnknownPart}
 use Rattle.ground.specs.declared.Refusal.TheVariants.{NotedCount, NotedAbove}
-use Rattle.ground.specs.Outcomes.{Outcome}
-use Rattle.ground.specs.Outcomes.{Rung, refused_if, answered}
+use Rattle.ground.specs.Outcomes.{Outcome, Rung, refused_if, answered}
 use Rattle.ground.specs.Parts.{is_part, part_of}
 use Rattle.ground.specs.Places.{lowest, somewhere}
 unfoldable pub use Rattle.commands.specs.Commands.{command_fault}

@@ -69,7 +69,7 @@ fn next_of(address: u8) -> u8
     ((address as u16 + 1) % phases::ROUND) as u8
 }
 
-// Bit `position` of a nibble.
+// Bit `position` of a nibble. Streams has its own, for the bits of a byte: one for both would be public, for one line of code.
 #[tactic(auto, using(ground::proofs::BitsLaws::bit_at_past))]
 fn bit_of(position: u8, nibble: u8) -> bool
     ensures { result ≡ bit_at position nibble }

@@ -15,8 +15,7 @@ use Rattle.ground.specs.declared.Refusal.TheVariants.{OutputShort, NotedCount, N
 use Rattle.ground.specs.Parts.{part_of}
 use Rattle.ground.specs.Places.{lowest}
 use Rattle.ground.specs.Refusals.{refusal_number, refusal_place}
-use Rattle.ground.specs.Outcomes.{Outcome}
-use Rattle.ground.specs.Outcomes.{succeeded, Rung, ladder}
+use Rattle.ground.specs.Outcomes.{Outcome, succeeded, Rung, ladder}
 use Rattle.driver.specs.Refusals.{miscounted, nibble_fault, noted_fault, command_fault}
 use Rattle.driver.specs.Refusals.{write_refusals, read_refusals, command_refusals, decode_refusals, write_answer, read_answer, command_answer, decode_answer}
 use Rattle.streams.specs.Streams.{write_stream, read_stream, command_stream, decoded}

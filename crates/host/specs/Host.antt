@@ -4,8 +4,7 @@ use Rattle.std.specs.Prelude.{ℕ, ◌+◌, ◌*◌, cond, List, [], ◌∷◌, 
 use Rattle.ground.specs.Sizes.{record_length}
 use Rattle.ground.specs.declared.Refusal.{Refusal}
 use Rattle.ground.specs.declared.Refusal.TheVariants.{OutputShort}
-use Rattle.ground.specs.Outcomes.{Outcome}
-use Rattle.ground.specs.Outcomes.{outcome_number, outcome_place, succeeded, left, Rung, refused_if, ladder}
+use Rattle.ground.specs.Outcomes.{Outcome, outcome_number, outcome_place, succeeded, left, Rung, refused_if, ladder}
 use Rattle.power.specs.PowerOn.{power_on_refusals, chip_on, powered_on}
 use Rattle.streams.specs.Streams.{write_stream, read_stream, command_stream, decoded}
 use Rattle.driver.specs.Refusals.{write_answer, read_answer, command_answer, decode_answer}

@@ -1,8 +1,7 @@
 -- RULES "The listing": what each byte of the input is, the lines, and the output as a whole. Assumes nothing.
 use Rattle.std.specs.Prelude.{ℕ, zero, suc, ◌+◌, ◌-◌, ◌*◌, ◌/◌, ◌%◌, min, cond, ◌&&◌, List, [], ◌∷◌, ◌++◌, ltb, leb, eqb, length}
 use Rattle.ground.specs.declared.Refusal.TheVariants.{OutputShort}
-use Rattle.ground.specs.Outcomes.{Outcome}
-use Rattle.ground.specs.Outcomes.{refused_if, answered}
+use Rattle.ground.specs.Outcomes.{Outcome, refused_if, answered}
 use Rattle.answers.specs.declared.Answer.{Answer}
 use Rattle.answers.specs.Answers.{answer_number, first_detail, second_detail}
 use Rattle.chip.specs.declared.Chip.{Chip}

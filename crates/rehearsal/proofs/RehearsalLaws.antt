@@ -11,8 +11,7 @@ use Rattle.chip.specs.declared.Chip.{Chip}
 use Rattle.chip.specs.Chip.{stepped, advanced}
 use Rattle.ground.specs.Written.{over}
 use Rattle.ground.proofs.WrittenLaws.{length_over}
-use Rattle.ground.specs.Outcomes.{Outcome}
-use Rattle.ground.specs.Outcomes.{left, ComesTo}
+use Rattle.ground.specs.Outcomes.{Outcome, left, ComesTo}
 use Rattle.driver.specs.Refusals.{write_answer}
 use Rattle.streams.specs.Streams.{write_stream}
 use Rattle.demands.specs.Events.{after, samples, ticks}

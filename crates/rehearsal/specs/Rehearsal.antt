@@ -2,8 +2,7 @@
 use Rattle.std.specs.Prelude.{◌≡◌, List, [], ◌∷◌, ◌++◌, ℕ, ◌*◌, length, take, replicate, Ok, Err}
 use Rattle.chip.specs.declared.Chip.{Chip}
 use Rattle.chip.specs.Valid.{Valid}
-use Rattle.ground.specs.Outcomes.{Outcome}
-use Rattle.ground.specs.Outcomes.{left}
+use Rattle.ground.specs.Outcomes.{Outcome, left}
 use Rattle.driver.specs.Refusals.{write_answer}
 use Rattle.streams.specs.Streams.{write_stream}
 use Rattle.rehearsal.specs.declared.Rehearsed.{Rehearsed}

@@ -1,8 +1,8 @@
 -- The numbers that RULES "State record and simulator" gives the cases of each enum. Assumes nothing.
-use Rattle.settings.specs.declared.Settings.{Settings}
 use Rattle.std.specs.Prelude.{ℕ, Option, Some, None}
 use Rattle.ground.specs.declared.Refusal.TheVariants.{Malformed}
 use Rattle.ground.specs.Refusals.{refusal_number}
+use Rattle.settings.specs.declared.Settings.{Settings}
 use Rattle.settings.specs.declared.Pitch.{Pitch}
 use Rattle.settings.specs.declared.Pitch.TheVariants.{FourK, TwoK}
 use Rattle.settings.specs.declared.IrqSource.{IrqSource}

@@ -10,8 +10,7 @@ use lib.Dec.{ltb}
 use lib.ListN.{length, take, drop}
 use borrow.Author.Tests.{ltb-false}
 use Rattle.ground.specs.declared.Refusal.{Refusal}
-use Rattle.ground.specs.Outcomes.{Outcome}
-use Rattle.ground.specs.Outcomes.{left, Rung, ladder}
+use Rattle.ground.specs.Outcomes.{Outcome, left, Rung, ladder}
 use Rattle.ground.specs.Written.{over}
 use Rattle.ground.proofs.ChoiceLaws.{by_cases}
 use Rattle.ground.proofs.WrittenLaws.{length_over, take_over, drop_over}

@@ -8,8 +8,7 @@ use native.Mathlib.Omega.{arith}
 use lib.Dec.{ltb}
 use lib.ListN.{length}
 use Rattle.ground.specs.declared.Refusal.TheVariants.{OutputShort}
-use Rattle.ground.specs.Outcomes.{Outcome}
-use Rattle.ground.specs.Outcomes.{ComesTo, left}
+use Rattle.ground.specs.Outcomes.{Outcome, ComesTo, left}
 use Rattle.ground.specs.Written.{Wrote}
 use Rattle.ground.proofs.OutcomesLaws.{refuses, succeeds}
 use Rattle.streams.specs.Sent.{sent, Sends}

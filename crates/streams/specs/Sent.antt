@@ -2,8 +2,7 @@
 -- Assumes nothing.
 use Rattle.std.specs.Prelude.{ℕ, List, [], ◌∷◌, ltb, length}
 use Rattle.ground.specs.declared.Refusal.TheVariants.{OutputShort}
-use Rattle.ground.specs.Outcomes.{Outcome}
-use Rattle.ground.specs.Outcomes.{Rung, refused_if, answered, ComesTo}
+use Rattle.ground.specs.Outcomes.{Outcome, Rung, refused_if, answered, ComesTo}
 
 -- A buffer of `room` bytes is too short for the stream.
 abbrev pub no_room : List ℕ → ℕ → Rung

@@ -5,7 +5,7 @@ ghost use Rattle.ground.specs.Bits.{bit_at};
 ghost use Rattle.ground.specs.Written.{Wrote};
 ghost use Rattle.streams.specs.Streams.{send_bits, address_bits, nibble_bits, command_bits};
 
-// Samples, just as they are.
+// Samples, just as they are. Transcript has its own, for the bytes of lines: one for both would be public, and have to refuse.
 pub(crate) fn put<const N: usize>(out: &mut [u8], at: usize, samples: [u8; N]) -> usize
     requires { at + N ≤ length out.old }
     ensures { Wrote out.old at samples.entry out.new result }

@@ -13,8 +13,7 @@ use borrow.Author.Tests.{ltb-false, ne_eqb}
 use Rattle.ground.specs.declared.Refusal.{Refusal}
 use Rattle.ground.specs.declared.Refusal.TheVariants.{SampleAbove, NothingAsked, AddressAbove, NibbleAbove, UndefinedCommand, OutputShort, NotedCount, NotedAbove, Malformed, MemoryCount, RunsPastEnd, TooManyCommands, UnknownPart}
 use Rattle.ground.specs.Refusals.{refusal_number}
-use Rattle.ground.specs.Outcomes.{Outcome}
-use Rattle.ground.specs.Outcomes.{ComesTo}
+use Rattle.ground.specs.Outcomes.{Outcome, ComesTo}
 use Rattle.ground.specs.Written.{Wrote}
 use Rattle.ground.proofs.ChoiceLaws.{either, by_cases}
 use Rattle.ground.proofs.WrittenLaws.{wrote_none, wrote_then}

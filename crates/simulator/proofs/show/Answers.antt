@@ -3,10 +3,9 @@ use mathlib.Core.Path.{◌≡◌, ◌∙◌, sym, ap}
 use mathlib.Core.List.{List, map}
 use Prim.Native.Nat.{ℕ, ◌+◌, ◌≤◌, ◌<◌}
 use native.Mathlib.Omega.{arith}
-use lib.Bits.{bit_and}
 use native.Mathlib.Nat.{zero-add}
 use native.Mathlib.Numerals.{add-one}
-use lib.Bits.{and_zero_l}
+use lib.Bits.{bit_and, and_zero_l}
 use lib.ListN.{length, get_or, set, take, length-map, get_or-map}
 use lib.Seq.{paste, paste-suc, get_or-take, length-take-le}
 use Rattle.ground.specs.Sizes.{addresses}
