@@ -46,7 +46,9 @@ impl From<Answer> for Numbers {
     ghost from_gives = { λ answer result. result ≡ numbers answer };
 
     // The answer's number, a refusal's its own, and its details: the address or the code, and the nibble or the bit, or 0.
-    fn from(answer: Answer) -> Numbers {
+    fn from(answer: Answer) -> Numbers
+        ensures { result ≡ numbers answer }
+    {
         match answer {
             Answer::Nothing => numbered(0, 0, 0),
             Answer::Opened => numbered(1, 0, 0),

@@ -81,6 +81,7 @@ impl Chip {
     }
 
     // The chip after one tick of the system clock.
+    #[inline(always)]
     pub fn tick(self) -> Chip
         ensures { result ≡ ticked self }
     {
@@ -91,6 +92,7 @@ impl Chip {
     }
 
     // The chip after `ticks` single ticks.
+    #[inline(always)]
     pub fn advance(self, ticks: u16) -> Chip
         ensures { result ≡ advanced ticks self }
     {

@@ -2,13 +2,13 @@
 -- is a difference of two quotients. Assumes nothing.
 use mathlib.Core.Path.{◌≡◌, ◌∙◌, refl, sym, ap}
 use mathlib.Core.Bool.{Bool, true, false, cond}
-use Prim.Native.Nat.{ℕ, zero, suc, ◌+◌, ◌-◌, ◌*◌, ◌/◌, ◌%◌, ◌∣◌, ◌<◌}
+use Prim.Native.Nat.{ℕ, zero, suc, ◌+◌, ◌-◌, ◌*◌, ◌/◌, ◌%◌, ◌∣◌, ◌≤◌, ◌<◌}
 use native.Mathlib.Nat.{add-zero, sub_self, mod-mod_of_dvd, mod-lt, mod-mod, mod-add-mod, div-add-mod', mul-add-div_right, div-eq_of_lt}
 use native.Mathlib.Omega.{arith}
 use borrow.Author.Tests.{eqb-true, eqb-false}
 use lib.Dec.{eqb, eqb-suc-zero}
 use Rattle.clock.specs.Walks.{walked, met, next, rounds}
-use Rattle.clock.proofs.WalkLaws.{met_of}
+use Rattle.clock.proofs.WalkLaws.{met_of, met_le}
 
 -- What the code works out: where k steps from x lead, no step leaving x where it is, also out of range; and the rounds.
 abbrev pub landing : ℕ → ℕ → ℕ → ℕ
@@ -78,6 +78,10 @@ module _ (m : ℕ) (pos : 0 < m) where
   rounds_quotients zero x = sym (rw add-zero (sub_self (x / m)))
   rounds_quotients (suc k) x =
       ap (λ (c : ℕ). cond (eqb (next m x) 0) (suc c) c) (rounds_quotients k (next m x)) ∙ sym (quotients_suc k x)
+
+  -- there are no more rounds than steps
+  pub quotients_le : (k x : ℕ) → quotients m k x ≤ k
+  quotients_le k x = rw (sym (rounds_quotients k x)) (met_le (λ (y : ℕ). eqb y 0) (next m) k x)
 
   -- a counter whose size n is a multiple of m meets the multiples of m where one of size m comes back to 0
   pub multiples_quotients : (n : ℕ) → m ∣ n → (k x : ℕ) → met (λ (y : ℕ). eqb (y % m) 0) (next n) k x ≡ quotients m k x

@@ -1,7 +1,8 @@
 -- Laws of walks: n single steps of anything, and how many of them lead to where a test holds. Assumes nothing.
 use mathlib.Core.Path.{◌≡◌, ◌∙◌, refl, ap}
 use mathlib.Core.Bool.{Bool, true, false, cond}
-use Prim.Native.Nat.{ℕ, zero, suc}
+use Prim.Native.Nat.{ℕ, zero, suc, ◌≤◌}
+use native.Mathlib.Omega.{arith}
 use Rattle.clock.specs.Walks.{walked, met}
 
 -- What a step leaves alone, n steps leave alone.
@@ -15,6 +16,19 @@ pub met_all : {A : Type 0} (test : A → Bool) (step : A → A) → ((a : A) →
 unfolding met
 met_all test step e zero a = refl
 met_all test step e (suc n) a = rw (e (step a)) (ap suc (met_all test step e n (step a)))
+
+-- No more steps are counted than there are.
+pub met_le : {A : Type 0} (test : A → Bool) (step : A → A) (n : ℕ) (a : A) → met test step n a ≤ n
+unfolding met
+met_le test step zero a = omega arith
+met_le test step (suc n) a = go (test (step a)) (met_le test step n (step a))
+  where
+    rest : ℕ
+    rest = met test step n (step a)
+
+    go : (z : Bool) → rest ≤ n → cond z (suc rest) rest ≤ suc n
+    go true h = omega arith
+    go false h = omega arith
 
 -- Where f takes a step of the one to a step of the other, it takes n steps to n steps, and they meet a test as often.
 module _ {A B : Type 0} (f : A → B) (step : A → A) (shown : B → B) (alike : (a : A) → shown (f a) ≡ f (step a)) where

@@ -87,7 +87,9 @@ impl From<Source> for u8 {
     ghost from_gives = { λ source number. number ≡ source_number source };
 
     // Its number in the state record.
-    fn from(source: Source) -> u8 {
+    fn from(source: Source) -> u8
+        ensures { result ≡ source_number source }
+    {
         match source {
             Source::Xtal => 0,
             Source::Rc => 1,

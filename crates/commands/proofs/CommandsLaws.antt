@@ -2,9 +2,10 @@
 use Rattle.std.specs.Prelude.{Some}
 use mathlib.Core.Path.{◌≡◌, refl}
 use mathlib.Core.Bool.{◌||◌}
-use Prim.Native.Nat.{ℕ, zero, suc, ◌+◌, ◌/◌}
+use Prim.Native.Nat.{ℕ, zero, suc, ◌+◌, ◌*◌, ◌/◌, ◌<◌}
 use native.Mathlib.Omega.{arith}
 use lib.Dec.{eqb, ltb}
+use borrow.Author.Tests.{le-ltb}
 use Rattle.ground.proofs.ChoiceLaws.{either}
 use Rattle.ground.specs.declared.Part.{Part}
 use Rattle.ground.specs.declared.Part.TheVariants.{Ht, Gn}
@@ -12,7 +13,7 @@ use Rattle.commands.specs.declared.Bias.TheVariants.{Half, Third}
 use Rattle.commands.specs.declared.Commons.TheVariants.{Two, Three, Four}
 use Rattle.commands.specs.declared.Command.{Command}
 use Rattle.commands.specs.declared.Command.TheVariants.{SysDis, SysEn, LcdOff, LcdOn, TimerDis, WdtDis, TimerEn, WdtEn, ToneOff, ToneOn, ClrTimer, ClrWdt, Xtal32k, Rc256k, Ext256k, BiasCom, Tone4k, Tone2k, IrqDis, IrqEn, Rate, Test, Normal}
-use Rattle.commands.specs.Commands.{within, clr_timer, byte_meaning, code_meaning, undefined, below, Proper, ProperMeaning}
+use Rattle.commands.specs.Commands.{within, clr_timer, byte_meaning, code_meaning, undefined, command_fault, below, Proper, ProperMeaning}
 use Rattle.commands.specs.Numbers.{command_number}
 
 -- in each part 88 upper bytes are undefined
@@ -26,6 +27,13 @@ pub undefined_codes : (part : Part) → below 512 (λ code. undefined (code_mean
 unfolding byte_meaning code_meaning
 undefined_codes Ht = refl
 undefined_codes Gn = refl
+
+-- a command asked for by a byte is at fault where that byte has no meaning
+pub byte_fault : (part : Part) (code : ℕ) → code < 256 → command_fault part code ≡ undefined (byte_meaning part code)
+unfolding command_fault code_meaning
+byte_fault part code h =
+    let half : 2 * code / 2 ≡ code = omega arith in
+    simp (le-ltb 511 (2 * code) (omega arith), half)
 
 -- the number of a command is a code that means it in the HT
 pub number_means : (command : Command) → Proper command → byte_meaning Ht (command_number command) ≡ Some command

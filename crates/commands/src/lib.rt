@@ -28,7 +28,9 @@ impl From<Bias> for u8 {
     ghost from_gives = { λ bias number. number ≡ bias_number bias };
 
     // Its number in the state record: 2 for 1/2, 3 for 1/3.
-    fn from(bias: Bias) -> u8 {
+    fn from(bias: Bias) -> u8
+        ensures { result ≡ bias_number bias }
+    {
         match bias {
             Bias::Half => 2,
             Bias::Third => 3,
@@ -40,7 +42,9 @@ impl From<Commons> for u8 {
     ghost from_gives = { λ commons number. number ≡ commons_number commons };
 
     // How many commons they are.
-    fn from(commons: Commons) -> u8 {
+    fn from(commons: Commons) -> u8
+        ensures { result ≡ commons_number commons }
+    {
         match commons {
             Commons::Two => 2,
             Commons::Three => 3,

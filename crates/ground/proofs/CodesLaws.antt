@@ -9,6 +9,17 @@ use Rattle.std.specs.Prelude.{Option, Some, None}
 use Rattle.ground.specs.Codes.{read_by, is_code, case_of}
 use Rattle.ground.proofs.ChoiceLaws.{none_chosen, some_chosen}
 
+-- what is made of a reading is made of what it found
+module _ {A B C : Type 0} (make : B → C) (found : A → B) (none : B) (number : A → ℕ) where
+  pub read_by_map : (cases : List A) (code : ℕ)
+      → make (read_by found none number cases code) ≡ read_by (λ one. make (found one)) (make none) number cases code
+  read_by_map [] code = refl
+  read_by_map (first ∷ cases) code = by (eqb code (number first)) _ _ (read_by_map cases code)
+    where
+      by : (t : Bool) (x : B) (y : C) → make x ≡ y → make (cond t (found first) x) ≡ cond t (make (found first)) y
+      by true x y e = refl
+      by false x y e = e
+
 -- a reading is a choice: the case that the code stands for, or nothing where it is none's
 module _ {A : Type 0} (number : A → ℕ) (other : A) (code : ℕ) where
   pub read_of : (cases : List A)

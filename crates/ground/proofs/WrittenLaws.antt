@@ -1,11 +1,12 @@
 -- Laws of bytes of a list, and of bytes written over a buffer. Assumes nothing.
 use mathlib.Core.Path.{◌≡◌, ap, sym, ◌∙◌}
 use mathlib.Core.List.{List, [], ◌∷◌, ◌++◌, append_assoc, append-nil}
-use Prim.Native.Nat.{ℕ, zero, suc, ◌+◌, ◌≤◌}
+use Prim.Native.Nat.{ℕ, zero, suc, ◌+◌, ◌≤◌, ◌<◌}
 use native.Mathlib.Omega.{arith}
 use native.Mathlib.Nat.{add-zero, zero-add, add-suc, suc-add}
-use lib.ListN.{length-take, length, take, drop, replicate, length-append, take-append-drop, drop_of_length-le}
-use lib.Seq.{drop-append_seam, paste, take_all, length-paste, take-paste, drop-paste, take-length, drop-drop, drop-cons}
+use native.Mathlib.Numerals.{add-one}
+use lib.ListN.{length-take, length, take, drop, get_or, set, replicate, length-append, take-append-drop, drop_of_length-le}
+use lib.Seq.{drop-append_seam, paste, paste-suc, take_all, length-paste, take-paste, drop-paste, take-length, set_split, append_snoc, drop-drop, drop-cons}
 use Rattle.ground.specs.Sizes.{addresses}
 use Rattle.ground.specs.Written.{byte, over, Wrote, memory_from}
 
@@ -39,6 +40,13 @@ module _ (buffer bytes : List ℕ) (at : ℕ) (fits : at + length bytes ≤ leng
   drop_over =
       sym (ap (drop (at + length bytes)) (over_paste buffer bytes at))
       ∙ drop-paste buffer at bytes (length bytes) (omega arith) (omega arith)
+
+-- one store is a write of one byte
+pub set_over : (buffer : List ℕ) (at byte : ℕ) → at < length buffer → set buffer at byte ≡ over buffer at (byte ∷ [])
+set_over buffer at byte h =
+    set_split buffer at byte h
+    ∙ sym (append_snoc (take at buffer) byte (drop (suc at) buffer))
+    ∙ ap (λ (n : ℕ). take at buffer ++ (byte ∷ []) ++ drop n buffer) (sym (add-one at))
 
 -- what is written right after what was written
 pub over_over : (buffer first second : List ℕ) (at : ℕ) → at + length first + length second ≤ length buffer
@@ -83,6 +91,15 @@ wrote_then {a} {b} {c} first second {at} {k} {m} p q h =
       buffer = q.buffer ∙ rw (p.buffer, p.cursor) (over_over a first second at h);
     }
 
+-- one entry more of a list that fills a buffer from its start
+pub paste_next : (buffer bytes now : List ℕ) (i : ℕ) → now ≡ paste buffer 0 bytes i → i < length buffer → i < length bytes
+    → set now i (get_or bytes i 0) ≡ paste buffer 0 bytes (i + 1)
+paste_next buffer bytes now i e room more =
+    ap (λ (n : ℕ). set now n (get_or bytes i 0)) (sym (zero-add i))
+    ∙ ap (λ (l : List ℕ). set l (0 + i) (get_or bytes i 0)) e
+    ∙ paste-suc buffer 0 bytes i 0 (omega arith) more
+    ∙ ap (paste buffer 0 bytes) (sym (add-one i))
+
 -- a write leaves the buffer as long as it was
 pub wrote_length : {before bytes after : List ℕ} {at next : ℕ} → Wrote before at bytes after next
     → at + length bytes ≤ length before → length after ≡ length before
@@ -96,3 +113,11 @@ paste_whole buffer bytes i full all =
 -- a value for each address is a memory as it stands
 pub memory_from_all : (values : List ℕ) → length values ≡ addresses → memory_from values ≡ values
 memory_from_all values e = rw e (paste_whole (replicate addresses 0) values addresses (omega arith) (omega arith))
+
+-- bytes put over a buffer one by one: the length, and the whole of it
+module _ (buffer block now : List ℕ) (at i : ℕ) (e : now ≡ paste buffer at block i) where
+  pub put_length : at + i ≤ length buffer → i ≤ length block → length now ≡ length buffer
+  put_length room more = ap length e ∙ length-paste buffer at block i room more
+
+  pub put_whole : i ≡ length block → now ≡ over buffer at block
+  put_whole whole = e ∙ ap (paste buffer at block) whole ∙ over_paste buffer block at

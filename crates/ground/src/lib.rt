@@ -24,7 +24,9 @@ impl From<Part> for u8 {
     ghost from_gives = { λ part number. number ≡ part_number part };
 
     // Its number, which callers give and the state record has.
-    fn from(part: Part) -> u8 {
+    fn from(part: Part) -> u8
+        ensures { result ≡ part_number part }
+    {
         match part {
             Part::Ht => 0,
             Part::Gn => 1,
@@ -80,7 +82,9 @@ impl From<Refusal> for u8 {
     ghost from_gives = { λ why number. number ≡ refusal_number why };
 
     // The refusal's number in the table of RULES "Driver streams".
-    fn from(why: Refusal) -> u8 {
+    fn from(why: Refusal) -> u8
+        ensures { result ≡ refusal_number why }
+    {
         match why {
             Refusal::SampleAbove => 20,
             Refusal::NothingAsked => 21,

@@ -29,7 +29,9 @@ impl From<Levels> for u8 {
     ghost from_gives = { λ levels number. number ≡ levels_number levels };
 
     // The sample that has these levels.
-    fn from(levels: Levels) -> u8 {
+    fn from(levels: Levels) -> u8
+        ensures { result ≡ levels_number levels }
+    {
         (levels.cs as u8) + 2 * (levels.wr as u8) + 4 * (levels.rd as u8) + 8 * (levels.bit as u8)
     }
 }
@@ -38,7 +40,9 @@ impl From<u8> for Levels {
     ghost from_gives = { λ sample result. result ≡ levels sample };
 
     // The levels that a sample's number stands for. Only its lowest four bits count.
-    fn from(sample: u8) -> Levels {
+    fn from(sample: u8) -> Levels
+        ensures { result ≡ levels sample }
+    {
         Levels {
             cs: sample % 2 == 1,
             wr: sample / 2 % 2 == 1,

@@ -64,7 +64,9 @@ impl From<Line> for u8 {
     ghost from_gives = { λ line number. number ≡ line_number line };
 
     // Its number in the state record and among the pins: 0 released, 1 low, 2 high.
-    fn from(line: Line) -> u8 {
+    fn from(line: Line) -> u8
+        ensures { result ≡ line_number line }
+    {
         match line {
             Line::Released => 0,
             Line::Driven(bit) => 1 + (bit as u8),

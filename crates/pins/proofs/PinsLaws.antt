@@ -1,14 +1,8 @@
 -- The cells that show are the memory's bits under one mask: with the chip dark none, otherwise the lowest, as many as there
--- are commons; and a `map` by a closure that keeps its captures is a `map`. Assumes nothing.
-use mathlib.Core.Path.{◌≡◌, ◌∙◌, refl, ap, subst}
+-- are commons. Assumes nothing.
+use mathlib.Core.Path.{◌≡◌, ◌∙◌}
 use mathlib.Core.Bool.{Bool, true, false, ◌&&◌}
-use mathlib.Core.List.{List, ◌∷◌, map}
-use denote.Param.Members.{Mut, Called}
-use native.Mathlib.Numerals.{add-one}
-use lib.ListN.{length, drop, drop_of_length-le}
-use lib.Seq.{drop-cons}
-use Rattle.std.specs.Array.{MapsFrom, IsMapOf}
-use Prim.Native.Nat.{ℕ, zero, suc, ◌+◌, ◌*◌, ◌%◌, ◌≤◌}
+use Prim.Native.Nat.{ℕ, ◌+◌, ◌*◌, ◌%◌}
 use native.Mathlib.Omega.{arith}
 use lib.Bits.{bit_and, and_mask, and_zero_r}
 use lib.Dec.{ltb}
@@ -47,21 +41,3 @@ under true true Four n = and_mask n 4 ∙ omega (arith, low_two n, low_three n, 
 pub shown_under_mask : (s : Settings) (n : ℕ) → bit_and n (shown_nibble s 15) ≡ shown_nibble s n
 unfolding shown_nibble shows
 shown_under_mask s n = under (running s) s.lcd.on s.lcd.commons n
-
--- an array's `map` by a closure that gives h of each item and keeps its captures
-module _ {F : Type 0} (g : Mut F (ℕ × Unit {0}) ℕ) (h : ℕ → ℕ) (f : F)
-    (calls : (x y : ℕ) (q : F) → Called g f (x, tt) y q → (y ≡ h x) × (q ≡ f)) (xs ys : List ℕ) where
-  mapped_from : (n i : ℕ) → MapsFrom g f xs ys i n → i + n ≡ length xs → i + n ≡ length ys → drop i ys ≡ map h (drop i xs)
-  mapped_from zero i m e e' =
-      let none : length xs ≤ i = omega arith in
-      let none' : length ys ≤ i = omega arith in
-      rw (drop_of_length-le xs none, drop_of_length-le ys none') refl
-  mapped_from (suc n) i m e e' =
-      let call : _ = calls m.1 m.2 m.0 m.5 in
-      let rest : drop (i + 1) ys ≡ map h (drop (i + 1) xs) =
-      mapped_from n (i + 1) (subst (λ (q : F). MapsFrom g q xs ys (i + 1) n) call.1 m.6) (omega arith) (omega arith) in
-      rw (drop-cons xs i 0 (omega arith), drop-cons ys i 0 (omega arith), m.3.1 0, m.4.1 0, call.0)
-      (ap (λ (l : List ℕ). h m.1 ∷ l) (subst (λ (k : ℕ). drop k ys ≡ map h (drop k xs)) (add-one i) rest))
-
-  pub mapped : (n : ℕ) → IsMapOf g f xs ys n → n ≡ length xs → ys ≡ map h xs
-  mapped n m e = mapped_from n 0 m.each (omega arith) (omega (arith, m.long))

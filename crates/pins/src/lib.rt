@@ -91,11 +91,16 @@ pub fn shown_mask(settings: Settings) -> u8
     }
 }
 
-// Each nibble under a mask.
+// Each nibble under a mask. By their index: `map` of an array takes twelve times as long (tried), and of `iter_mut` a proof knows no
+// element.
 fn under_mask(memory: [u8; ADDRESSES], mask: u8) -> [u8; ADDRESSES]
     ensures { result ≡ map (λ n. bit_and n mask) memory }
 {
-    memory.map(|nibble| nibble & mask)
+    let mut cells = memory;
+    for i in 0..ADDRESSES {
+        cells[i] = memory[i] & mask;
+    }
+    cells
 }
 
 // What the pins show.

@@ -51,12 +51,22 @@ fn rehearse(
     }
 }
 
-// Writes the memory of a chip as a line of hex digits.
-fn show(rt: &impl Print, chip: Chip) -> io::Result<()> {
-    for nibble in &chip.port.memory {
-        print!(rt; "{nibble:x}")?;
+// A nibble as a hex digit.
+fn digit(nibble: u8) -> u8 {
+    if nibble < 10 {
+        return b'0' + nibble;
     }
-    rt.write_all(b"\n")
+    b'a' + (nibble - 10) % 16
+}
+
+// Writes the memory of a chip as a line of hex digits. In one write, from a buffer: `print!` writes at once, so that a line made digit by
+// digit could be torn by another writer, or left half written.
+fn show(rt: &impl Print, chip: Chip) -> io::Result<()> {
+    let mut line = [b'\n'; 33];
+    for (byte, nibble) in line.iter_mut().zip(&chip.port.memory) {
+        *byte = digit(*nibble);
+    }
+    rt.write_all(&line)
 }
 
 fn main(rt: HostRuntime) -> io::Result<()> {

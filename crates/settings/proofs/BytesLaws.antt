@@ -53,6 +53,9 @@ use Rattle.settings.proofs.SelectionsLaws.{source_back, source_small, bias_back,
 and_next : (a rest : Bool) → a ≡ true → (a && rest) ≡ rest
 and_next a rest h = rw h
 
+pub and_fails : (a rest : Bool) → a ≡ false → (a && rest) ≡ false
+and_fails a rest h = rw h
+
 -- ---- what right bytes have
 
 pub record SettingsHas (b : List ℕ) : Type 0 where

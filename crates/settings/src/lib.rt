@@ -95,7 +95,9 @@ impl From<Pitch> for u8 {
     ghost from_gives = { λ pitch number. number ≡ pitch_number pitch };
 
     // Its number in the state record: its kHz.
-    fn from(pitch: Pitch) -> u8 {
+    fn from(pitch: Pitch) -> u8
+        ensures { result ≡ pitch_number pitch }
+    {
         match pitch {
             Pitch::FourK => 4,
             Pitch::TwoK => 2,
@@ -107,7 +109,9 @@ impl From<IrqSource> for u8 {
     ghost from_gives = { λ source number. number ≡ irq_source_number source };
 
     // Its number in the state record.
-    fn from(source: IrqSource) -> u8 {
+    fn from(source: IrqSource) -> u8
+        ensures { result ≡ irq_source_number source }
+    {
         match source {
             IrqSource::Neither => 0,
             IrqSource::TimeBase => 1,

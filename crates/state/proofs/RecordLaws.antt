@@ -2,7 +2,7 @@
 use Rattle.std.specs.Prelude.{Some, None, Ok, Err}
 use mathlib.Core.Path.{◌≡◌, ◌∙◌, refl, sym, ap}
 use mathlib.Core.Bool.{Bool, true, false, cond, ◌&&◌, and-true, and-false}
-use mathlib.Core.List.{List, ◌++◌}
+use mathlib.Core.List.{List, ◌++◌, append-nil}
 use Prim.Native.Nat.{ℕ, ◌+◌, ◌≤◌}
 use native.Mathlib.Omega.{arith}
 use lib.Dec.{ltb, eqb}
@@ -12,7 +12,7 @@ use Rattle.ground.specs.Sizes.{addresses, record_length}
 use Rattle.ground.specs.declared.Refusal.{Refusal}
 use Rattle.ground.specs.declared.Refusal.TheVariants.{OutputShort, Malformed}
 use Rattle.ground.specs.Outcomes.{outcome_number, written_as}
-use Rattle.ground.specs.Written.{byte, over}
+use Rattle.ground.specs.Written.{byte, over, memory_from}
 use Rattle.ground.specs.Parts.{part_read}
 use Rattle.ground.specs.Ranges.{up_to}
 use Rattle.ground.specs.declared.Part.{Part}
@@ -71,6 +71,10 @@ unfolding port_over written_as
 port_room port buffer size room =
     let long = length_over buffer (port_bytes port) 0 (omega (arith, port_length port size)) in
     rw (le-ltb (length buffer) record_length room) (omega (arith, long))
+
+-- the memory of a record is its first bytes
+pub memory_taken : (bytes : List ℕ) → length bytes ≡ record_length → memory_from bytes ≡ take addresses bytes
+memory_taken bytes h = rw h (append-nil (take addresses bytes))
 
 -- and with the settings after them a record
 pub put_record : (chip : Chip) (buffer : List ℕ) → length chip.port.memory ≡ addresses → record_length ≤ length buffer

@@ -32,7 +32,8 @@ fn are_nibbles(values: &[u8]) -> bool
 fn memory_right(bytes: &[u8]) -> bool
     ensures { result ≡ (eqb (length bytes.now) record_length && memory_fits bytes.now) }
 {
-    bytes.len() == RECORD_LENGTH && are_nibbles(&bytes[..ADDRESSES])
+    let counted = bytes.len() == RECORD_LENGTH;
+    counted && are_nibbles(&bytes[..ADDRESSES])
 }
 
 // The scan that a record's bytes 59 and 60 say. That they are a record's is asked of the caller: an array of 64 would first have to be

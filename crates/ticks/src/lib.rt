@@ -16,8 +16,11 @@ pub fn running(settings: Settings) -> bool
 }
 
 // The settings after `ticks` single ticks, without walking. Counters and scan go by the same base ticks, which the compiler works out once.
-// Set in place and not by a struct update, which takes 16 bytes of stack more than the header of `advance` allows.
+// Set in place and not by a struct update, which takes 16 bytes of stack more than the header of `advance` allows. Put into each caller, as
+// `ticked` and the chip's two are: a program with several calls would else hand the settings over in memory, and a call take 1.7 times as
+// long.
 #[tactic(auto, using(crate::proofs::TicksLaws::advanced_still, crate::proofs::TicksLaws::advanced_at_once))]
+#[inline(always)]
 pub fn advanced(settings: Settings, ticks: u16) -> Settings
     ensures { result ≡ advanced ticks settings }
 {
@@ -39,6 +42,7 @@ pub fn advanced(settings: Settings, ticks: u16) -> Settings
 
 // The settings after one tick of the system clock.
 #[tactic(auto, unfolding(crate::specs::Ticks::advanced))]
+#[inline(always)]
 pub fn ticked(settings: Settings) -> Settings
     ensures { result ≡ ticked settings }
 {

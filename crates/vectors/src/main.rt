@@ -14,15 +14,11 @@
 // list 160, and at most 600 bytes are lent. Assumes nothing.
 #![tactic(auto)]
 
-ghost use Rattle.std.specs.Prelude.{◌≡◌, ◌≤◌};
+ghost use Rattle.std.specs.Prelude.{◌≡◌, ◌≤◌, length, IfOk};
 ghost use Rattle.vectors.specs.Vectors.{sample_of};
 
 use std::io;
 use std::io::Read;
-
-// As many bytes of the script as are read. They are read to the heap, as a test may; the listing, which a maker runs, has its input on the
-// stack.
-const LONGEST: u64 = 262144;
 
 // The sample of a digit. No `to_digit`: a byte that is no digit gives a number too, so that there is nothing to refuse.
 #[tactic(auto, unfolding(crate::specs::Vectors::sample_of))]
@@ -209,8 +205,25 @@ fn answer_all(rt: &impl Print, script: &[u8]) -> io::Result<()> {
     Ok(())
 }
 
+// Fills a buffer from standard input as far as that goes, and says how many bytes came. A loop over `read`, as listing's: `read_to_end`
+// reads to the heap and so could fail for want of memory. A program lends no function to another.
+fn read_full(reader: &mut impl Read, bytes: &mut [u8]) -> io::Result<usize>
+    ensures { IfOk result (λ count. count ≤ length bytes.new) }
+{
+    let mut done = 0;
+    while done < bytes.len() {
+        let came = reader.read(&mut bytes[done..])?;
+        if came == 0 {
+            break;
+        }
+        done += came;
+    }
+    Ok(done)
+}
+
+// As many bytes of the script are read as this buffer has.
 fn main(rt: HostRuntime) -> io::Result<()> {
-    let mut script = Vec::new(rt.alloc());
-    rt.reader().take(LONGEST).read_to_end(&mut script)?;
-    answer_all(&rt, &script)
+    let mut input = [0u8; 262144];
+    let count = read_full(&mut rt.reader(), &mut input)?;
+    answer_all(&rt, &input[..count])
 }

@@ -10,7 +10,7 @@ use Rattle.state.proofs.memory_right.Goals as goal
 pub slice_bounds-are_nibbles-end : goal.slice_bounds-are_nibbles-end
 slice_bounds-are_nibbles-end c = omega (arith, length-take {A = ℕ} 32 c.args.bytes.now)
 
-pub returns-then-bytes-eq-RECORD_LENGTH : goal.returns-then-bytes-eq-RECORD_LENGTH
-returns-then-bytes-eq-RECORD_LENGTH c =
-    rw (eq-eqb _ _ c.if-bytes-eq-RECORD_LENGTH.true)
-    (c.are_nibbles.ensures ∙ memory_tested c.args.bytes.now c.if-bytes-eq-RECORD_LENGTH.true)
+pub returns-then-counted : goal.returns-then-counted
+returns-then-counted c =
+    rw (eq-eqb _ _ c.if-counted.true)
+    (c.are_nibbles.ensures ∙ memory_tested c.args.bytes.now c.if-counted.true)
