@@ -56,9 +56,18 @@ low_rows =
     (0x00, SysDis) ∷
     []
 
-abbrev lookup : ℕ → List (ℕ × Command) → Option Command
+abbrev pub lookup : ℕ → List (ℕ × Command) → Option Command
 lookup n [] = None
 lookup n (row ∷ rest) = cond (eqb n row.0) (Some row.1) (lookup n rest)
+
+-- n is the number of no row
+abbrev pub Misses : ℕ → List (ℕ × Command) → Type 0
+Misses n [] = Unit {0}
+Misses n (row ∷ rest) = Misses n rest × (n ≡ row.0 → ⊥)
+
+pub lookup_misses : (n : ℕ) (rest : List (ℕ × Command)) → Misses n rest → lookup n rest ≡ None
+lookup_misses n [] m = refl
+lookup_misses n (row ∷ rest) m = simp (ne_eqb _ _ m.1, lookup_misses n rest m.0)
 
 -- what a number stands for
 abbrev pub named : ℕ → Option Command

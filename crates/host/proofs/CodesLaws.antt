@@ -44,7 +44,7 @@ Small (Ok count) = count ≤ 585
 Small (Err why) = refusal_place why ≤ 128
 
 -- 32 bits hold the code of a refusal, and of every answer
-refused_held : (why : Refusal) → refusal_place why ≤ 128 → refused_code why < 4294967296
+pub refused_held : (why : Refusal) → refusal_place why ≤ 128 → refused_code why < 4294967296
 unfolding host_code
 refused_held why h = omega (arith, number_small why)
 

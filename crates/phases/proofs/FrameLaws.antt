@@ -105,7 +105,7 @@ phase_found : Option Phase → ℕ
 phase_found (Some phase) = 1
 phase_found None = 0
 
-phase_there : (code count value at position : ℕ) → code ≤ 7 → phase_read code count value at position ≡ None → ⊥
+pub phase_there : (code count value at position : ℕ) → code ≤ 7 → phase_read code count value at position ≡ None → ⊥
 unfolding phase_read phase_found
 phase_there code count value at position h e =
     let found = agree (λ (k : ℕ). phase_found (phase_read k count value at position)) (λ (k : ℕ). 1) 8 refl code (omega arith) in
@@ -115,7 +115,7 @@ line_found : Option Line → ℕ
 line_found (Some line) = 1
 line_found None = 0
 
-line_there : (n : ℕ) → n ≤ 2 → line_read n ≡ None → ⊥
+pub line_there : (n : ℕ) → n ≤ 2 → line_read n ≡ None → ⊥
 unfolding line_read line_found
 line_there n h e =
     let found = agree (λ (k : ℕ). line_found (line_read k)) (λ (k : ℕ). 1) 3 refl n (omega arith) in

@@ -51,7 +51,7 @@ fn rehearse(
     }
 }
 
-// A nibble as a hex digit.
+// A nibble as a hex digit. Above 15 it is some letter, so that there is nothing to refuse.
 fn digit(nibble: u8) -> u8 {
     if nibble < 10 {
         return b'0' + nibble;
@@ -59,8 +59,8 @@ fn digit(nibble: u8) -> u8 {
     b'a' + (nibble - 10) % 16
 }
 
-// Writes the memory of a chip as a line of hex digits. In one write, from a buffer: `print!` writes at once, so that a line made digit by
-// digit could be torn by another writer, or left half written.
+// Writes the memory of a chip as a line of hex digits, of which the newline is the 33rd byte. In one write, from a buffer: `print!` writes
+// at once, so that a line made digit by digit could be torn by another writer, or left half written.
 fn show(rt: &impl Print, chip: Chip) -> io::Result<()> {
     let mut line = [b'\n'; 33];
     for (byte, nibble) in line.iter_mut().zip(&chip.port.memory) {

@@ -50,7 +50,7 @@ use Rattle.settings.specs.Valid.{SettingsValid}
 use Rattle.settings.proofs.FieldsLaws.{all_known_past, all_known_both, read_from_past}
 use Rattle.settings.proofs.SelectionsLaws.{source_back, source_small, bias_back, bias_small, commons_back, commons_small, pitch_back, pitch_small, irq_source_back, irq_source_small}
 
-and_next : (a rest : Bool) → a ≡ true → (a && rest) ≡ rest
+pub and_next : (a rest : Bool) → a ≡ true → (a && rest) ≡ rest
 and_next a rest h = rw h
 
 pub and_fails : (a rest : Bool) → a ≡ false → (a && rest) ≡ false

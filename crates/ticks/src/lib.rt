@@ -16,9 +16,9 @@ pub fn running(settings: Settings) -> bool
 }
 
 // The settings after `ticks` single ticks, without walking. Counters and scan go by the same base ticks, which the compiler works out once.
-// Set in place and not by a struct update, which takes 16 bytes of stack more than the header of `advance` allows. Put into each caller, as
-// `ticked` and the chip's two are: a program with several calls would else hand the settings over in memory, and a call take 1.7 times as
-// long.
+// Set in place and not by a struct update, which takes 16 bytes of stack more than the header of `advance` allows. Put into each caller: a
+// program with several calls would else hand the settings over in memory, and a call take 1.4 to 1.7 times as long (tried). `ticked` and the
+// chip's two are put there with it, since what has it inside is too large to be put there else.
 #[tactic(auto, using(crate::proofs::TicksLaws::advanced_still, crate::proofs::TicksLaws::advanced_at_once))]
 #[inline(always)]
 pub fn advanced(settings: Settings, ticks: u16) -> Settings

@@ -205,8 +205,9 @@ fn answer_all(rt: &impl Print, script: &[u8]) -> io::Result<()> {
     Ok(())
 }
 
-// Fills a buffer from standard input as far as that goes, and says how many bytes came. A loop over `read`, as listing's: `read_to_end`
-// reads to the heap and so could fail for want of memory. A program lends no function to another.
+// Fills a buffer from standard input as far as that goes, and says how many bytes came. A loop over `read`, since `read_to_end` reads
+// to the heap and so could fail for want of memory, and `read_exact` does not say how many bytes came. As listing's: a program lends no
+// function to another.
 fn read_full(reader: &mut impl Read, bytes: &mut [u8]) -> io::Result<usize>
     ensures { IfOk result (λ count. count ≤ length bytes.new) }
 {
